@@ -1,182 +1,153 @@
 //! Nodes and faults of folders of the disk.
 
-use crate::base::looks::{Look, assert_found, assert_looks};
-use crate::support::folders::{FolderNode, fill, own_folder, within};
-use bstr::BStr;
+use crate::support::folders::within;
+use crate::support::prelude::*;
+use FolderNode::{Changed, File, Folder, Link, Mode};
 use status_base::worktree::disk::{fault_of, metadata_of};
-use status_base::worktree::{DiskWorktree, Fault, Metadata, NodeKind, Worktree};
 use status_index::Time;
-use std::path::Path;
-use std::process::Abort;
-use std::rt::Files;
-use std::test::Fail;
 use std::time::Duration;
 use std::{fs, io};
 
-// Returns the kind of a node in a worktree that threads may share.
-fn shared_kind<W: Worktree + Sync>(worktree: &W, path: &[u8]) -> Result<NodeKind, Fault> {
-    Ok(worktree.lstat(BStr::new(path))?.kind)
+// Returns what `lstat` reports of a node in a worktree that threads may share.
+fn lstat<W: Worktree + Sync>(worktree: &W, path: &str) -> Result<Metadata, Fault> {
+    worktree.lstat(BStr::from(path))
+}
+
+// Returns a file of three bytes that isn't executable, and was last changed at this time.
+fn file_at(stamp: Option<Time>) -> Metadata {
+    Metadata {
+        kind: NodeKind::File,
+        len: 3,
+        executable: false,
+        mtime: stamp,
+        ctime: stamp,
+        dev: 0,
+        ino: 0,
+        uid: 0,
+        gid: 0,
+    }
 }
 
 #[test]
-fn threads_may_share_a_folder(rt: HostRuntime) -> Result<(), Fail> {
-    let worktree = DiskWorktree::new(&rt, Path::new("/"))?;
-    assert!(rt; shared_kind(&worktree, b"dev") == Ok(NodeKind::Directory));
+fn all_of_a_file_is_reported(rt: HostRuntime) -> Result<(), Fail> {
+    let early = Duration::from_secs(5) + Duration::from_nanos(7);
+    let last = Duration::from_secs(4294967295);
+    let folder = own_folder(&rt, "all_of_a_file")?;
+    let nodes = [
+        ("a", File("foo")),
+        ("a", Changed(early)),
+        ("a", Mode(0o755)),
+        ("late", File("foo")),
+        ("late", Changed(last)),
+        ("later", File("foo")),
+        ("later", Changed(last + Duration::from_secs(1))),
+    ];
+    fill(&rt, folder.as_str(), &nodes)?;
+    let worktree = DiskWorktree::new(&rt, Path::new(folder.as_str()))?;
+    for (path, stamp) in [
+        ("a", Some(Time { secs: 5, nsecs: 7 })),
+        (
+            "late",
+            Some(Time {
+                secs: 4294967295,
+                nsecs: 0,
+            }),
+        ),
+        ("later", None),
+    ] {
+        assert!(rt; lstat(&worktree, path) == Ok(file_at(stamp)), "{path}");
+    }
+    assert!(rt; metadata_of(&fs::Metadata::of_file(3)) == file_at(None));
+    fs::remove_dir_all(&rt, folder.as_str())?;
     Ok(())
 }
 
-#[test]
-fn stamps_are_reported(rt: HostRuntime) -> Result<(), Fail> {
-    let early = Duration::from_secs(5) + Duration::from_nanos(7);
-    let last = Duration::from_secs(4294967295);
-    let early_stamp = Some(Time { secs: 5, nsecs: 7 });
-    let last_stamp = Some(Time {
-        secs: 4294967295,
-        nsecs: 0,
-    });
-    let nodes = [
-        ("a", FolderNode::File("foo")),
-        ("a", FolderNode::Changed(early)),
-        ("late", FolderNode::File("")),
-        ("late", FolderNode::Changed(last)),
-        ("later", FolderNode::File("")),
-        ("later", FolderNode::Changed(last + Duration::from_secs(1))),
-    ];
-    let looks = [
-        (b"a".as_slice(), Look::Stamp(early_stamp)),
-        (b"late", Look::Stamp(last_stamp)),
-        (b"later", Look::Stamp(None)),
-    ];
-    let folder = own_folder(&rt, "stamps_are_reported")?;
-    assert_found(&rt, folder.as_str(), &nodes, &looks)
+// Returns the results at a path where each call fails by a fault with this text.
+fn nothing<'a>(path: &'a [u8], fault: &'a str) -> Look<'a> {
+    (path, fault, fault, fault)
 }
 
-// A file that was last changed 5 seconds after the epoch.
-const FILE: Metadata = Metadata {
-    kind: NodeKind::File,
-    len: 3,
-    executable: false,
-    mtime: Some(Time { secs: 5, nsecs: 0 }),
-    ctime: Some(Time { secs: 5, nsecs: 0 }),
-    dev: 0,
-    ino: 0,
-    uid: 0,
-    gid: 0,
-};
-
 #[test]
-fn nodes_are_reported(rt: HostRuntime) -> Result<(), Fail> {
+fn nodes_and_faults_are_named(rt: HostRuntime) -> Result<(), Fail> {
     let name = "control\n\x01 é";
     let nodes = [
-        ("a", FolderNode::File("foo")),
-        ("a", FolderNode::Changed(Duration::from_secs(5))),
-        ("a", FolderNode::Mode(0o755)),
-        ("l", FolderNode::Link("a")),
-        ("d", FolderNode::Folder),
-        (name, FolderNode::File("x")),
+        ("a", File("foo")),
+        ("l", Link("a")),
+        ("d", Folder),
+        (name, File("x")),
+        ("loop", Link("loop")),
+        ("dangling", Link("gone")),
     ];
     let looks = [
-        (b"a".as_slice(), Look::Whole(FILE)),
-        (b"l", Look::Lstat(Ok((NodeKind::Link, 1)))),
-        (name.as_bytes(), Look::Lstat(Ok((NodeKind::File, 1)))),
-        (b"d", Look::Kind(NodeKind::Directory)),
-        (b"l", Look::Target("a")),
+        (b"a".as_slice(), "File of 3", "3 bytes", "other 0"),
+        (name.as_bytes(), "File of 1", "1 bytes", "other 0"),
+        (b"l", "Link of 1", "3 bytes", "to a"),
+        // The system opens a directory, and then refuses to read it.
+        (b"d", "Directory", "unread, other 0", "other 0"),
+        (b"loop", "Link of 4", "other 0", "to loop"),
+        (b"dangling", "Link of 4", "not found", "to gone"),
+        nothing(b"x", "not found"),
+        nothing(b"x/y", "not found"),
+        nothing(b"dangling/x", "not found"),
+        nothing(b"a/b", "not a directory"),
+        nothing(b"\xff", "ill-formed UTF-8"),
+        nothing(b"d/\xc3", "ill-formed UTF-8"),
+        nothing(b"a\0", "other 0"),
+        nothing(b"loop/x", "other 0"),
+        nothing(&[b'x'; 300], "other 0"),
+        nothing(&[b'x'; 5000], "other 0"),
     ];
-    let folder = own_folder(&rt, "nodes_are_reported")?;
-    assert_found(&rt, folder.as_str(), &nodes, &looks)?;
-    let look = (b"null".as_slice(), Look::Kind(NodeKind::Other));
-    assert_looks(&rt, "/dev", &[look])
+    let folder = own_folder(&rt, "nodes_and_faults")?;
+    fill(&rt, folder.as_str(), &nodes)?;
+    assert_looks(&rt, folder.as_str(), &looks)?;
+    fs::remove_dir_all(&rt, folder.as_str())?;
+    assert_looks(&rt, folder.as_str(), &[nothing(b"a", "not found")])?;
+    assert_looks(
+        &rt,
+        "/dev",
+        &[(b"null", "Other of 0", "0 bytes", "other 0")],
+    )
 }
 
+// The path is longer than one for which no memory is taken.
 #[test]
 fn long_paths_lead_below_the_folder(rt: HostRuntime) -> Result<(), Fail> {
     let mut name = String::new(rt.alloc());
     for _ in 0..15 {
         name.push_str("long name_")?;
     }
-    let name = name.as_str();
-    // The path is longer than one for which no memory is taken.
-    let path = within(&rt, name, name)?;
-    let path = path.as_str();
-    let nodes = [(name, FolderNode::Folder), (path, FolderNode::File("foo"))];
-    let looks = [
-        (path.as_bytes(), Look::Lstat(Ok((NodeKind::File, 3)))),
-        (path.as_bytes(), Look::Open(None)),
-    ];
+    let path = within(&rt, name.as_str(), name.as_str())?;
+    let nodes = [(name.as_str(), Folder), (path.as_str(), File("foo"))];
+    let look = (path.as_str().as_bytes(), "File of 3", "3 bytes", "other 0");
     let folder = own_folder(&rt, "long_paths")?;
-    assert_found(&rt, folder.as_str(), &nodes, &looks)
-}
-
-#[test]
-fn faults_are_named(rt: HostRuntime) -> Result<(), Fail> {
-    let nodes = [
-        ("a", FolderNode::File("foo")),
-        ("loop", FolderNode::Link("loop")),
-        ("dangling", FolderNode::Link("gone")),
-        ("d", FolderNode::Folder),
-    ];
-    let looks = [
-        (b"x".as_slice(), Look::Nothing(Fault::NotFound)),
-        (b"x/y", Look::Nothing(Fault::NotFound)),
-        (b"dangling/x", Look::Nothing(Fault::NotFound)),
-        (b"a/b", Look::Nothing(Fault::NotADirectory)),
-        (b"\xff", Look::Nothing(Fault::IllformedUtf8)),
-        (b"d/\xc3", Look::Nothing(Fault::IllformedUtf8)),
-        (b"a\0", Look::Nothing(Fault::Other(0))),
-        (b"loop/x", Look::Nothing(Fault::Other(0))),
-        (&[b'x'; 300], Look::Nothing(Fault::Other(0))),
-        (&[b'x'; 5000], Look::Nothing(Fault::Other(0))),
-        (b"loop", Look::Lstat(Ok((NodeKind::Link, 4)))),
-        (b"loop", Look::Open(Some(Fault::Other(0)))),
-        (b"dangling", Look::Open(Some(Fault::NotFound))),
-        (b"a", Look::NoTarget(Fault::Other(0))),
-        // The system opens a directory, and then refuses to read it.
-        (b"d", Look::Read(Fault::Other(0))),
-    ];
-    let folder = own_folder(&rt, "faults_are_named")?;
-    assert_found(&rt, folder.as_str(), &nodes, &looks)
-}
-
-#[test]
-fn nothing_is_found_where_no_folder_is(rt: HostRuntime) -> Result<(), Fail> {
-    let folder = own_folder(&rt, "no_folder")?;
+    fill(&rt, folder.as_str(), &nodes)?;
+    assert_looks(&rt, folder.as_str(), &[look])?;
     fs::remove_dir_all(&rt, folder.as_str())?;
-    let look = (b"a".as_slice(), Look::Lstat(Err(Fault::NotFound)));
-    assert_looks(&rt, folder.as_str(), &[look])
+    Ok(())
 }
 
-// Returns the result of `lstat` for the file `d/b` of 3 bytes, in a folder whose `d` no one may read. The system lets
-// root read everything, so root gets no fault here, unless that right was taken away.
-fn found_when_locked<R: Files + AllocGlobal>(
-    rt: &R,
-    folder: &str,
-) -> io::Result<Result<(NodeKind, u64), Fault>> {
-    let path = within(rt, folder, "d/b")?;
-    match fs::symlink_metadata(rt, path.as_str()) {
-        Ok(_) => Ok(Ok((NodeKind::File, 3))),
-        Err(_) => Ok(Err(Fault::PermissionDenied)),
-    }
-}
-
-// Asserts the results for a file and a folder that may not be read.
+// Asserts the results for a file and a folder that may not be read. The system lets root read everything, so root gets
+// no fault, unless that right was taken away.
 fn assert_locked<R: Files + AllocGlobal + Abort>(rt: &R, folder: &str) -> Result<(), Fail>
 where
     R::File: Drop,
 {
     let nodes = [
-        ("a", FolderNode::File("foo")),
-        ("d", FolderNode::Folder),
-        ("d/b", FolderNode::File("bar")),
-        ("a", FolderNode::Mode(0)),
-        ("d", FolderNode::Mode(0)),
+        ("a", File("foo")),
+        ("d", Folder),
+        ("d/b", File("bar")),
+        ("a", Mode(0)),
+        ("d", Mode(0)),
     ];
     fill(rt, folder, &nodes)?;
-    let locked = found_when_locked(rt, folder)?;
+    let (path, denied) = (within(rt, folder, "d/b")?, "permission denied");
+    let (node, read, target) = match fs::symlink_metadata(rt, path.as_str()) {
+        Ok(_) => ("File of 3", "3 bytes", "other 0"),
+        Err(_) => (denied, denied, denied),
+    };
     let looks = [
-        (b"a".as_slice(), Look::Lstat(Ok((NodeKind::File, 3)))),
-        (b"a", Look::Open(locked.err())),
-        (b"d/b", Look::Open(locked.err())),
-        (b"d/b", Look::Lstat(locked)),
+        (b"a".as_slice(), "File of 3", read, "other 0"),
+        (b"d/b", node, read, target),
     ];
     assert_looks(rt, folder, &looks)
 }
@@ -186,7 +157,7 @@ fn unreadable_nodes_are_refused(rt: HostRuntime) -> Result<(), Fail> {
     let folder = own_folder(&rt, "unreadable")?;
     assert_locked(&rt, folder.as_str())?;
     // A folder that may not be read can't be removed.
-    fill(&rt, folder.as_str(), &[("d", FolderNode::Mode(0o700))])?;
+    fill(&rt, folder.as_str(), &[("d", Mode(0o700))])?;
     fs::remove_dir_all(&rt, folder.as_str())?;
     Ok(())
 }
@@ -206,9 +177,74 @@ fn errors_of_the_system_have_faults(rt: HostRuntime) {
     }
 }
 
-#[test]
-fn a_time_that_is_not_known_is_no_stamp(rt: HostRuntime) {
-    let found = metadata_of(&fs::Metadata::of_file(3));
-    assert_eq!(rt; found.len, 3);
-    assert!(rt; found.mtime.is_none() && found.ctime.is_none());
+// Returns the kind of a node and its length, if it isn't a directory, or the fault.
+fn node_text<W: Worktree>(
+    alloc: Global,
+    worktree: &W,
+    path: BStr<'_>,
+) -> Result<String, AllocError> {
+    match worktree.lstat(path) {
+        Ok(found) if found.kind == NodeKind::Directory => format!(in alloc; "{:?}", found.kind),
+        Ok(found) => format!(in alloc; "{:?} of {}", found.kind, found.len),
+        Err(fault) => format!(in alloc; "{fault}"),
+    }
+}
+
+// Returns how many bytes the first read of a file returns, of at most eight, or the fault of the read or of opening.
+fn read_text<W: Worktree>(
+    alloc: Global,
+    worktree: &W,
+    path: BStr<'_>,
+) -> Result<String, AllocError> {
+    match worktree.open(path) {
+        Ok(mut file) => match file.read_bytes(&mut [0; 8]) {
+            Ok(count) => format!(in alloc; "{count} bytes"),
+            Err(fault) => format!(in alloc; "unread, {fault}"),
+        },
+        Err(fault) => format!(in alloc; "{fault}"),
+    }
+}
+
+// Returns the target of a link, or the fault. The bytes in the buffer are replaced, by nothing if there is a fault.
+fn target_text<W: Worktree>(
+    alloc: Global,
+    worktree: &W,
+    path: BStr<'_>,
+) -> Result<String, AllocError> {
+    let mut buffer = Vec::from_slice(alloc, b"before")?;
+    let read = worktree.read_link(path, &mut buffer);
+    let target = BStr::new(buffer.as_slice());
+    match read {
+        Ok(()) => format!(in alloc; "to {target}"),
+        Err(fault) => format!(in alloc; "{fault}{target}"),
+    }
+}
+
+// A path, and the results of `lstat`, of a read and of reading the link there.
+type Look<'a> = (&'a [u8], &'a str, &'a str, &'a str);
+
+// Returns whether the calls on a path have these results.
+fn is_met<W: Worktree>(alloc: Global, worktree: &W, look: &Look<'_>) -> Result<bool, AllocError> {
+    let (path, node, read, target) = *look;
+    let path = BStr::new(path);
+    let is_node = node_text(alloc, worktree, path)?.as_str() == node;
+    let is_read = read_text(alloc, worktree, path)?.as_str() == read;
+    Ok(is_node && is_read && target_text(alloc, worktree, path)?.as_str() == target)
+}
+
+// Asserts the results at these paths of a folder.
+fn assert_looks<R: Files + AllocGlobal + Abort>(
+    rt: &R,
+    folder: &str,
+    looks: &[Look<'_>],
+) -> Result<(), Fail> {
+    let worktree = DiskWorktree::new(rt, Path::new(folder))?;
+    for look in looks {
+        assert!(rt;
+            is_met(rt.alloc(), &worktree, look)?,
+            "at {}",
+            BStr::new(look.0)
+        );
+    }
+    Ok(())
 }

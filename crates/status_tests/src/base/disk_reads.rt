@@ -1,77 +1,28 @@
 //! Reads of files of the disk: in pieces, of a file that is shortened meanwhile, and interrupted.
 
-use crate::support::folders::{FolderNode, fill, own_folder, within, writer};
-use bstr::BStr;
-use status_base::worktree::{DiskWorktree, Fault, ReadBytes, Worktree};
-use status_index::{HashKind, ObjectId, compute_stream_hash};
+use crate::support::folders::{within, writer};
+use crate::support::prelude::*;
+use status_index::{HashKind, compute_stream_hash};
 use std::alloc::Allocator;
 use std::cell::Cell;
 use std::fs;
 use std::fs::{Metadata, OpenFile, OpenOptions};
 use std::io::{self, Read, Seek, SeekFrom, Write};
-use std::path::Path;
-use std::process::Abort;
-use std::rt::Files;
-use std::test::Fail;
 
-// Returns the id of the first `len` bytes of the file `a`, and the result of one more read.
-fn read_to<W: Worktree>(
-    worktree: &W,
-    len: u64,
-) -> Result<(Result<ObjectId, Fault>, Result<usize, Fault>), Fault> {
-    let mut file = worktree.open(BStr::new(b"a"))?;
-    let hashed = compute_stream_hash(HashKind::Sha1, &mut file, len);
-    Ok((hashed, file.read_bytes(&mut [0; 8])))
-}
-
-// Writes a file of this many bytes `x`.
-fn write_long<R: Files + AllocGlobal>(rt: &R, path: &str, len: u64) -> io::Result<()>
-where
-    R::File: Drop,
-{
-    let content = Vec::from_elem(rt.alloc(), b'x', len as usize)?;
-    fs::write(rt, path, content.as_slice())
-}
-
-// Removes bytes at the end of a file, so that this many are left.
-fn shorten<R: Files>(rt: &R, path: &str, len: u64) -> io::Result<()>
-where
-    R::File: Drop,
-{
-    writer(rt, path)?.set_len(len)
-}
-
-// Returns the id of a file that is shortened after it is opened, or the fault.
-fn read_shortened<R: Files, W: Worktree>(
+// Returns the id of the first 200,000 bytes of the file `a`. After it is opened, the file gets this length.
+fn read_at_length<R: Files, W: Worktree>(
     rt: &R,
     worktree: &W,
     path: &str,
+    len: u64,
 ) -> Result<Result<ObjectId, Fault>, Fail>
 where
     R::File: Drop,
 {
     let mut file = worktree.open(BStr::new(b"a"))?;
-    shorten(rt, path, 70000)?;
-    Ok(compute_stream_hash(HashKind::Sha1, &mut file, 200000))
+    writer(rt, path)?.set_len(len)?;
+    Ok(compute_stream_hash(HashKind::Sha1, &mut file, 200_000))
 }
-
-// Lengths of files, and git's ids of them.
-const LONG: [(u64, [u8; 20]); 2] = [
-    (
-        65536,
-        [
-            0x88, 0x0b, 0x00, 0x53, 0x89, 0xc6, 0xeb, 0x01, 0x1e, 0x1c, 0x1c, 0x3c, 0xc4, 0x20,
-            0xd7, 0xc0, 0x77, 0xcc, 0xf6, 0xd7,
-        ],
-    ),
-    (
-        200000,
-        [
-            0xa2, 0x13, 0xaa, 0x40, 0xf1, 0x1f, 0x7a, 0xf2, 0xa9, 0xc9, 0xe9, 0x73, 0xdf, 0x59,
-            0x92, 0x78, 0x41, 0x30, 0x60, 0xbb,
-        ],
-    ),
-];
 
 // Asserts how the file `a` is read from a folder. The file is at `path`.
 fn assert_pieces<R: Files + AllocGlobal + Abort>(
@@ -82,14 +33,12 @@ fn assert_pieces<R: Files + AllocGlobal + Abort>(
 where
     R::File: Drop,
 {
+    let content = Vec::from_elem(rt.alloc(), b'x', 200_000)?;
+    fs::write(rt, path, content.as_slice())?;
     let worktree = DiskWorktree::new(rt, Path::new(folder))?;
-    for (len, id) in LONG {
-        write_long(rt, path, len)?;
-        let read = read_to(&worktree, len);
-        assert_eq!(rt; read, Ok((Ok(ObjectId::Sha1(id)), Ok(0))), "at {len}");
-    }
-    let read = read_shortened(rt, &worktree, path)?;
-    assert_eq!(rt; read, Err(Fault::UnexpectedEnd));
+    assert_eq!(rt; read_at_length(rt, &worktree, path, 200_000)?, Ok(LONG));
+    let shortened = read_at_length(rt, &worktree, path, 70_000)?;
+    assert_eq!(rt; shortened, Err(Fault::UnexpectedEnd));
     Ok(())
 }
 

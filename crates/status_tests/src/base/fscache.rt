@@ -1,194 +1,100 @@
 //! Listings of directories, and attributes and times of files by Windows.
 
-ghost use Rattle.std.specs.Prelude.{None, false, refl};
-
-use bstr::{BStr, BString};
+use crate::support::inputs::LISTED_FILE;
+use crate::support::prelude::*;
+use crate::support::side_effects::CountingLister;
 use status_base::fscache::{FsCache, Stat, filetime_to_unix, type_flags_from_attributes};
-use status_base::worktree::{Lister, Listing, NoLister};
+use status_base::worktree::Lister;
+use status_callers::listers::{Directories, Directory};
 use status_index::Time;
-use std::alloc::{AllocError, Global};
-use std::sync::atomic::{AtomicBool, AtomicUsize, Ordering};
 
-/// A directory's path and its names, each with a file's size, or None if it can't be listed.
-type Directory = (&'static str, Option<&'static [(&'static str, u64)]>);
+/// A listed file of no bytes.
+const NOTHING: Stat = Stat {
+    size: 0,
+    ..LISTED_FILE
+};
 
-const DIRECTORIES: [Directory; 3] = [
-    (
-        "",
-        Some(&[("twice", 5), ("test.txt", 1), ("subdir", 0), ("twice", 6)]),
-    ),
-    ("subdir", Some(&[("nested.txt", 2)])),
+const NAMES: [(&str, Stat); 4] = [
+    ("twice", NOTHING),
+    ("test.txt", LISTED_FILE),
+    ("subdir", NOTHING),
+    ("twice", LISTED_FILE),
+];
+
+const DIRECTORIES: [Directory<'static>; 3] = [
+    ("", Some(&NAMES)),
+    ("subdir", Some(&[("nested.txt", NOTHING)])),
     ("d", None),
 ];
 
-/// Lists these directories, and counts the calls for each. It isn't modelled.
-#[derive(Clone, Copy)]
-struct Table<'a> {
-    alloc: Global,
-    asked: &'a [AtomicUsize; 3],
-    /// Whether the next listing is refused memory.
-    refuses: &'a AtomicBool,
-}
-
-impl<'a> Lister for Table<'a> {
-    ghost modelled = { λ _. false };
-
-    ghost listing = { λ _ _. None };
-
-    ghost clone_keeps_modelled = { λ _ _ _. refl };
-
-    ghost clone_keeps_listing = { λ _ _ _. refl };
-
-    fn list(&self, directory: BStr<'_>) -> Result<Listing, AllocError> {
-        for ((path, names), asked) in DIRECTORIES.iter().zip(self.asked) {
-            if path.as_bytes() == directory.as_bytes() {
-                asked.fetch_add(1, Ordering::SeqCst);
-                if self.refuses.swap(false, Ordering::SeqCst) {
-                    return Err(AllocError);
-                }
-                return match names {
-                    Some(names) => Ok(Some(listed(self.alloc, *names)?)),
-                    None => Ok(None),
-                };
-            }
-        }
-        Ok(None)
-    }
-}
-
-// Returns a listing of files with these names and sizes.
-fn listed(alloc: Global, names: &[(&str, u64)]) -> Result<Vec<(BString, Stat)>, AllocError> {
-    let mut entries = Vec::new(alloc);
-    for (name, size) in names {
-        let stat = Stat {
-            size: *size,
-            ..Stat::default()
-        };
-        entries.push((BString::from_slice(alloc, *name)?, stat))?;
-    }
-    Ok(entries)
-}
-
-fn no_counts() -> [AtomicUsize; 3] {
-    [
-        AtomicUsize::new(0),
-        AtomicUsize::new(0),
-        AtomicUsize::new(0),
-    ]
-}
-
-fn counts(asked: &[AtomicUsize; 3]) -> [usize; 3] {
-    [
-        asked[0].load(Ordering::SeqCst),
-        asked[1].load(Ordering::SeqCst),
-        asked[2].load(Ordering::SeqCst),
-    ]
-}
-
 // Returns the size of a path that the cache knows, if any.
-fn size_at(cache: &mut FsCache<'_, Table<'_>>, path: &str) -> Result<Option<u64>, AllocError> {
+fn size_at<L: Lister>(cache: &mut FsCache<'_, L>, path: &str) -> Result<Option<u64>, AllocError> {
     match cache.get(BStr::from(path))? {
         Some(stat) => Ok(Some(stat.size)),
         None => Ok(None),
     }
 }
 
-/// A call of the cache: whether memory is refused, a path, and the known size of that, or None if the call fails.
-type Look = (bool, &'static str, Option<Option<u64>>);
+/// A path, and the size that the cache knows of it, or None if memory is refused.
+type Look = (&'static str, Option<Option<u64>>);
 
-/// The name of a row, the calls in order, how often each directory was listed by then, and the count of listings.
-type Row = (&'static str, &'static [Look], [usize; 3], u64);
+/// The calls in order, how often the lister was called by then, and the count of listings.
+type Row = (&'static [Look], usize, u64);
+
+const NESTED: Look = ("subdir/nested.txt", Some(Some(0)));
+
+const TEST: Look = ("test.txt", Some(Some(3)));
+
+const REFUSED: Look = ("test.txt", None);
+
+const OTHER_CASE: Look = ("Test.txt", Some(None));
 
 const ROWS: [Row; 7] = [
     (
-        "names in two directories",
-        &[
-            (false, "test.txt", Some(Some(1))),
-            (false, "subdir/nested.txt", Some(Some(2))),
-            (false, "Test.txt", Some(None)),
-            (false, "does-not-exist", Some(None)),
-        ],
-        [1, 1, 0],
+        &[TEST, NESTED, OTHER_CASE, ("does-not-exist", Some(None))],
+        2,
         2,
     ),
-    (
-        "a directory that can't be listed",
-        &[(false, "d/x", Some(None)), (false, "d/y", Some(None))],
-        [0, 0, 1],
-        1,
-    ),
-    (
-        "a name twice",
-        &[(false, "twice", Some(Some(6)))],
-        [1, 0, 0],
-        1,
-    ),
-    (
-        "a name as another, and not the directory above",
-        &[(false, "..", Some(None))],
-        [1, 0, 0],
-        1,
-    ),
-    (
-        "no file name, so nothing to be listed",
-        &[
-            (false, "d/", Some(None)),
-            (false, "subdir/", Some(None)),
-            (false, "", Some(None)),
-        ],
-        [0, 0, 0],
-        0,
-    ),
-    (
-        "what was listed is known after a refusal",
-        &[
-            (false, "subdir/nested.txt", Some(Some(2))),
-            (true, "test.txt", None),
-            (false, "subdir/nested.txt", Some(Some(2))),
-        ],
-        [1, 1, 0],
-        1,
-    ),
-    (
-        "a refused listing is asked for again",
-        &[
-            (false, "subdir/nested.txt", Some(Some(2))),
-            (true, "test.txt", None),
-            (false, "test.txt", Some(Some(1))),
-        ],
-        [2, 1, 0],
-        2,
-    ),
+    // The directory can't be listed.
+    (&[("d/x", Some(None)), ("d/y", Some(None))], 1, 1),
+    // The name is there twice, and the last counts.
+    (&[("twice", Some(Some(3)))], 1, 1),
+    // It is a name as another, and not the directory above.
+    (&[("..", Some(None))], 1, 1),
+    // There is no file name, so nothing to be listed.
+    (&[("d/", Some(None)), ("", Some(None))], 0, 0),
+    // Listings stay known after a refusal. The refused listing is asked for again.
+    (&[NESTED, REFUSED, NESTED], 2, 1),
+    (&[NESTED, REFUSED, TEST], 3, 2),
 ];
 
 // Returns whether the results and the counts are those of a row.
 fn is_row(alloc: Global, row: &Row) -> bool {
-    let (_name, looks, wanted, listings) = *row;
-    let (asked, refuses) = (no_counts(), AtomicBool::new(false));
-    let lister = Table {
-        alloc,
-        asked: &asked,
-        refuses: &refuses,
+    let (looks, wanted, listings) = *row;
+    let (calls, refuses) = (AtomicUsize::new(0), AtomicBool::new(false));
+    let lister = CountingLister {
+        lister: Directories {
+            alloc,
+            directories: &DIRECTORIES,
+        },
+        calls: &calls,
+        refuses: Some(&refuses),
     };
     let mut cache = FsCache::new(alloc, &lister);
-    for (refused, path, size) in looks {
-        refuses.store(*refused, Ordering::SeqCst);
+    for (path, size) in looks {
+        refuses.store(size.is_none(), Ordering::SeqCst);
         if size_at(&mut cache, *path).ok() != *size {
             return false;
         }
     }
-    counts(&asked) == wanted && cache.listings() == listings
+    calls.load(Ordering::SeqCst) == wanted && cache.listings() == listings
 }
 
 #[test]
 fn each_directory_is_listed_once(rt: HostRuntime) {
-    for row in &ROWS {
-        assert!(rt; is_row(rt.alloc(), row), "{}", row.0);
+    for (at, row) in ROWS.iter().enumerate() {
+        assert!(rt; is_row(rt.alloc(), row), "row {at}");
     }
-}
-
-#[test]
-fn no_directory_is_listed(rt: HostRuntime) {
     assert!(rt; matches!(NoLister.list(BStr::from("d")), Ok(None)));
 }
 

@@ -1,51 +1,21 @@
 //! The check of paths that lead through links: each form of result, and that the counted calls of `lstat` are made.
 
-use crate::support::nodes::metadata;
-use bstr::{BStr, BString};
+ghost use Rattle.std.specs.Prelude.{false, Err};
+ghost use Rattle.status_index.specs.declared.fault.Fault.TheVariants.{NotFound};
+
+use crate::support::prelude::*;
+use NodeKind::{Directory, File, Link};
 use status_base::stack::SymlinkCheck;
-use status_base::worktree::{Fault, Metadata, NodeKind, ReadBytes, Worktree};
-use std::alloc::{AllocError, Global};
-use std::process::Abort;
-use std::sync::atomic::{AtomicUsize, Ordering};
-use std::test::Fail;
 
-/// A path, and the result of `lstat` there.
-type Answer = (&'static str, Result<NodeKind, Fault>);
-
-/// The results of `lstat`. It returns `NotFound` for any other path.
-const ANSWERS: [Answer; 6] = [
-    ("a", Ok(NodeKind::Directory)),
-    ("a/b", Ok(NodeKind::Directory)),
-    ("a/e", Ok(NodeKind::Directory)),
-    ("f", Ok(NodeKind::File)),
-    ("f/x", Err(Fault::NotADirectory)),
-    ("l", Ok(NodeKind::Link)),
-];
-
-/// The same for a directory whose name begins with that of a link.
-const ALIKE: [Answer; 2] = [("a", Ok(NodeKind::Link)), ("ab", Ok(NodeKind::Directory))];
-
-/// A worktree with these results of `lstat`. It counts the calls.
+/// A worktree in memory that counts all calls of `lstat`. It isn't modelled.
 #[derive(Drop)]
-struct Counted<'a> {
-    answers: &'static [Answer],
+struct CountsAll<'a> {
+    worktree: MemoryWorktree,
     looks: &'a AtomicUsize,
 }
 
-#[derive(Drop)]
-struct NoFile;
-
-impl ReadBytes for NoFile {
-    fn read_bytes(&mut self, _buffer: &mut [u8]) -> Result<usize, Fault> {
-        Err(Fault::Other(0))
-    }
-}
-
-impl<'a> Worktree for Counted<'a> {
-    ghost use Rattle.std.specs.Prelude.{false, Err};
-    ghost use Rattle.status_index.specs.declared.fault.Fault.TheVariants.{NotFound};
-
-    type File = NoFile;
+impl<'a> Worktree for CountsAll<'a> {
+    type File = MemoryFile;
 
     ghost modelled = { λ _. false };
 
@@ -57,22 +27,31 @@ impl<'a> Worktree for Counted<'a> {
 
     fn lstat(&self, path: BStr<'_>) -> Result<Metadata, Fault> {
         self.looks.fetch_add(1, Ordering::SeqCst);
-        for (name, answer) in self.answers {
-            if name.as_bytes() == path.as_bytes() {
-                return answer.map(metadata);
-            }
-        }
-        Err(Fault::NotFound)
+        self.worktree.lstat(path)
     }
 
-    fn open(&self, _path: BStr<'_>) -> Result<NoFile, Fault> {
-        Err(Fault::NotFound)
+    fn open(&self, path: BStr<'_>) -> Result<MemoryFile, Fault> {
+        self.worktree.open(path)
     }
 
-    fn read_link(&self, _path: BStr<'_>, _target: &mut Vec<u8>) -> Result<(), Fault> {
-        Err(Fault::NotFound)
+    fn read_link(&self, path: BStr<'_>, target: &mut Vec<u8>) -> Result<(), Fault> {
+        self.worktree.read_link(path, target)
     }
 }
+
+const NODES: [NodeRow<'static>; 5] = [
+    ("a", Directory, b"", 0, Some(STAGED)),
+    ("a/b", Directory, b"", 0, Some(STAGED)),
+    ("a/e", Directory, b"", 0, Some(STAGED)),
+    ("f", File, b"", 0, Some(STAGED)),
+    ("l", Link, b"a", 1, Some(STAGED)),
+];
+
+/// A directory whose name begins with that of a link.
+const ALIKE: [NodeRow<'static>; 2] = [
+    ("a", Link, b"f", 1, Some(STAGED)),
+    ("ab", Directory, b"", 0, Some(STAGED)),
+];
 
 /// A path, whether a directory above it may be absent, the result of a check below the root `r`, and how often it has
 /// called `lstat` by then.
@@ -103,38 +82,26 @@ const ROWS: [Row; 18] = [
     ("l/x", true, "Err(ThroughLink { prefix: \"l\" })", 11),
 ];
 
-/// The same for the worktree with a directory `ab` and a link `a`.
 const ALIKE_ROWS: [Row; 2] = [
     ("ab/x", false, "Ok(\"r/ab/x\")", 1),
     ("a/x", false, "Err(ThroughLink { prefix: \"a\" })", 2),
 ];
 
-/// Returns the result of a check for a path, as a text. If `may_be_absent`, the path may lead to nothing.
-fn answer(
+/// Returns whether a check has the result of a row, counts as many calls of `lstat` as were made, and keeps its root.
+fn is_row(
     alloc: Global,
     check: &mut SymlinkCheck,
-    worktree: &Counted<'_>,
-    path: &str,
-    may_be_absent: bool,
-) -> Result<String, AllocError> {
+    worktree: &CountsAll<'_>,
+    row: &Row,
+) -> Result<bool, AllocError> {
+    let (path, may_be_absent, want, looks) = *row;
     let path = BStr::from(path);
     let answer = if may_be_absent {
         check.verified_path_allow_nonexisting(worktree, path)
     } else {
         check.verified_path(worktree, path)
     };
-    format!(in alloc; "{answer:?}")
-}
-
-/// Returns whether a check has the result of a row, counts as many calls of `lstat` as were made, and keeps its root.
-fn is_row(
-    alloc: Global,
-    check: &mut SymlinkCheck,
-    worktree: &Counted<'_>,
-    row: &Row,
-) -> Result<bool, AllocError> {
-    let (path, may_be_absent, want, looks) = *row;
-    let found = answer(alloc, check, worktree, path, may_be_absent)?;
+    let found = format!(in alloc; "{answer:?}")?;
     let made = worktree.looks.load(Ordering::SeqCst) as u64;
     let is_counted = check.looks() == looks && made == looks;
     Ok(found.as_str() == want && is_counted && check.root() == BStr::from("r"))
@@ -143,12 +110,12 @@ fn is_row(
 // Asserts the results of one check below the root `r`, for paths in order.
 fn assert_rows<R: AllocGlobal + Abort>(
     rt: &R,
-    answers: &'static [Answer],
+    nodes: &[NodeRow<'_>],
     rows: &[Row],
-) -> Result<(), AllocError> {
+) -> Result<(), Fail> {
     let looks = AtomicUsize::new(0);
-    let worktree = Counted {
-        answers,
+    let worktree = CountsAll {
+        worktree: worktree(rt.alloc(), nodes)?,
         looks: &looks,
     };
     let root = BString::from_slice(rt.alloc(), "r")?;
@@ -165,7 +132,6 @@ fn assert_rows<R: AllocGlobal + Abort>(
 
 #[test]
 fn lstat_is_called_once_for_each_directory(rt: HostRuntime) -> Result<(), Fail> {
-    assert_rows(&rt, &ANSWERS, &ROWS)?;
-    assert_rows(&rt, &ALIKE, &ALIKE_ROWS)?;
-    Ok(())
+    assert_rows(&rt, &NODES, &ROWS)?;
+    assert_rows(&rt, &ALIKE, &ALIKE_ROWS)
 }

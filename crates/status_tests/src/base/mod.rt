@@ -1,11 +1,12 @@
-//! Tests of worktrees on disk and in memory, listings of directories, the check for symbolic links, and the texts of errors.
+//! Tests of an index, of worktrees on disk and in memory, and of their walks, listings and the check for symbolic links.
 //!
-//! Begin at `disk`. `looks` has what its tests use.
+//! Begin at `values`.
 
-mod base_words;
 mod disk;
 mod disk_reads;
+mod disk_walk;
 mod fscache;
 mod links;
-mod looks;
 mod memory;
+mod states;
+mod values;

@@ -1,8 +1,6 @@
-//! Tests of the board, from which workers draw the pieces of a task, and of rounds.
+//! Tests of the board, from which workers draw the pieces of a task.
 //!
-//! Begin at `two_seats`. `seats` has what the tests of a board use.
+//! Begin at `two_seats`.
 
-mod rounds;
-mod seats;
 mod three_threads;
 mod two_seats;

@@ -3,13 +3,11 @@
 ghost use Rattle.std.specs.Prelude.{◌≡◌, IfOk};
 ghost use Rattle.status_board.specs.Seats.{fresh};
 
-use crate::board::seats::{give_back, opened, seat_of};
+use crate::board::two_seats::{give_back, opened, seat_of};
+use crate::support::prelude::*;
 use status_board::board::{Board, Seat, Tally};
-use std::alloc::{AllocError, Global};
-use std::sync::Wait;
-use std::test::Fail;
 use std::thread;
-use std::thread::{Promise, Threads};
+use std::thread::Promise;
 
 /// The seat of a worker, and the numbers that it drew.
 #[derive(Drop)]

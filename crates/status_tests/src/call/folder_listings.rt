@@ -1,20 +1,12 @@
 //! A status with listings of a folder of the disk.
 
-use crate::call::inputs::{EntryRow, index};
-use crate::call::reports::{Says, Wanted, are_records, is_taken, read};
+use crate::call::reports::{Says, Wanted, is_report, read};
 use crate::call::statuses::listed_status;
-use crate::support::contents::Content;
-use crate::support::folders::{FolderNode, fill, own_folder};
-use gix_status::index::Mode;
+use crate::support::prelude::*;
 use gix_status::index_as_worktree::{Options, Outcome};
-use gix_status::worktree::DiskWorktree;
 use status_callers::listers::FolderLister;
 use status_callers::statuses::options;
 use std::fs;
-use std::path::Path;
-use std::sync::Wait;
-use std::test::Fail;
-use std::thread::Threads;
 
 /// Two files, one of them in a directory.
 const NODES: [(&str, FolderNode<'static>); 3] = [
@@ -23,20 +15,20 @@ const NODES: [(&str, FolderNode<'static>); 3] = [
     ("subdir/nested.txt", FolderNode::Staged("bars")),
 ];
 
-/// Nothing is at the first two paths. At the others are a directory, a file with other content, and an unchanged file.
-const ENTRIES: [EntryRow<'static>; 5] = [
-    ("Test.txt", 0, Mode::File, Content::Foo),
-    ("gone", 0, Mode::File, Content::Foo),
-    ("subdir", 0, Mode::File, Content::Foo),
-    ("subdir/nested.txt", 0, Mode::File, Content::Foo),
-    ("test.txt", 0, Mode::File, Content::Foo),
+/// The entries. The last one, `test.txt`, is unchanged.
+const PATHS: [&str; 5] = [
+    "Test.txt",
+    "gone",
+    "subdir",
+    "subdir/nested.txt",
+    "test.txt",
 ];
 
 const RECORDS: [Wanted<'static>; 4] = [
     (0, "Test.txt", Says::Removed),
     (1, "gone", Says::Removed),
     (2, "subdir", Says::Removed),
-    (3, "subdir/nested.txt", Says::Changed(Content::Bars)),
+    (3, "subdir/nested.txt", Says::Changed(BARS)),
 ];
 
 // Returns whether a folder has the expected status, with listings or without, and `lstat` is called on entries' paths
@@ -48,7 +40,7 @@ fn is_right<R: AllocGlobal + Threads + Wait>(
     fscache: bool,
     lstats: usize,
 ) -> Result<bool, Fail> {
-    let index = index(rt.alloc(), &ENTRIES)?;
+    let index = foos(rt.alloc(), &PATHS)?;
     let worktree = DiskWorktree::new(system, Path::new(root))?;
     let lister = FolderLister { rt: system, root };
     let options = Options {
@@ -60,20 +52,16 @@ fn is_right<R: AllocGlobal + Threads + Wait>(
         symlink_metadata_calls: lstats,
         ..read(5, 1, 4)
     };
-    Ok(are_records(&report.records, &RECORDS) && is_taken(&report.answer, &wanted))
+    Ok(is_report(&report, &RECORDS, &Ok(wanted)))
 }
 
 #[test]
 fn a_listed_folder_has_the_same_status(rt: HostRuntime) -> Result<(), Fail> {
     let folder = own_folder(&rt, "a_listed_folder")?;
     fill(&rt, folder.as_str(), &NODES)?;
+    assert!(rt; is_right(&rt, &rt, folder.as_str(), false, 5)?);
     // With listings, `lstat` is called only on paths that are in no listing.
-    for (fscache, lstats) in [(false, 5), (true, 2)] {
-        assert!(rt;
-            is_right(&rt, &rt, folder.as_str(), fscache, lstats)?,
-            "{fscache}"
-        );
-    }
+    assert!(rt; is_right(&rt, &rt, folder.as_str(), true, 2)?);
     fs::remove_dir_all(&rt, folder.as_str())?;
     Ok(())
 }

@@ -1,23 +1,15 @@
-//! Listings of directories, which replace calls of `lstat`.
+//! Listings of directories, which replace calls of `lstat`, and how often a directory is listed and `lstat` called on it.
 
-use crate::call::inputs::{EntryRow, NodeRow, index, worktree};
-use crate::call::reports::{is_removed, is_taken, read};
+use crate::call::reports::{is_taken, read};
 use crate::call::statuses::listed_status;
-use crate::support::contents::Content;
-use crate::support::stats::{LATER, LISTED_FILE, STAGED};
-use bstr::BStr;
+use crate::support::inputs::LISTED_FILE;
+use crate::support::prelude::*;
+use crate::support::side_effects::CountingLister;
 use gix_status::fscache::Stat;
-use gix_status::index::{Mode, ObjectId};
-use gix_status::index_as_worktree::{Capabilities, Change, EntryStatus, Options, Outcome};
-use gix_status::worktree::{MemoryWorktree, NodeKind};
+use gix_status::index_as_worktree::{Capabilities, Change, EntryStatus, Error, Options, Outcome};
+use gix_status::worktree::Point;
 use status_callers::listers::{Directories, Directory};
-use status_callers::statuses::{StatusReport, options};
-use status_callers::worktrees::Counted;
-use std::alloc::Global;
-use std::sync::Wait;
-use std::sync::atomic::{AtomicUsize, Ordering};
-use std::test::Fail;
-use std::thread::Threads;
+use status_callers::statuses::options;
 
 const LISTED_DIRECTORY: Stat = Stat {
     is_dir: true,
@@ -38,65 +30,6 @@ const DIRECTORIES: [Directory<'static>; 3] = [
     ("l", Some(&[("x", LISTED_FILE)])),
 ];
 
-/// The report of each entry.
-#[derive(Clone, Copy)]
-enum Verdict {
-    Nothing,
-    Removed,
-    /// Executability changed, and nothing else.
-    Executable,
-}
-
-/// The report of each entry, how often `lstat` is called on entries' paths, and how many files of three bytes are read.
-type Answer = (Verdict, usize, usize);
-
-/// Entries, and the results of the status with listings and without. The entries are alike: `lstat` is called on the
-/// paths of all, or of none.
-#[derive(Clone, Copy)]
-struct Row {
-    name: &'static str,
-    entries: &'static [EntryRow<'static>],
-    listed: Answer,
-    unlisted: Answer,
-}
-
-static ROWS: [Row; 5] = [
-    Row {
-        name: "no lstat of a listed file",
-        entries: &[("clean", 0, Mode::File, Content::Foo)],
-        listed: (Verdict::Nothing, 0, 0),
-        unlisted: (Verdict::Nothing, 1, 0),
-    },
-    Row {
-        name: "a listed directory is no file",
-        entries: &[("directory", 0, Mode::File, Content::Foo)],
-        listed: (Verdict::Removed, 0, 0),
-        unlisted: (Verdict::Nothing, 1, 0),
-    },
-    // The file is read, because its executability seems to have changed.
-    Row {
-        name: "a listed file is never executable",
-        entries: &[("executable", 0, Mode::FileExecutable, Content::Foo)],
-        listed: (Verdict::Executable, 0, 1),
-        unlisted: (Verdict::Nothing, 1, 0),
-    },
-    Row {
-        name: "lstat of each file in a directory that can't be listed",
-        entries: &[
-            ("d/x", 0, Mode::File, Content::Foo),
-            ("d/y", 0, Mode::File, Content::Foo),
-        ],
-        listed: (Verdict::Nothing, 2, 0),
-        unlisted: (Verdict::Nothing, 2, 0),
-    },
-    Row {
-        name: "no path leads through a link, whatever is listed below it",
-        entries: &[("l/x", 0, Mode::File, Content::Foo)],
-        listed: (Verdict::Removed, 0, 0),
-        unlisted: (Verdict::Removed, 0, 0),
-    },
-];
-
 /// Each file is unchanged. A link is at `l`, which has a listing like a directory.
 const NODES: [NodeRow<'static>; 6] = [
     ("clean", NodeKind::File, b"foo", 3, Some(STAGED)),
@@ -105,6 +38,45 @@ const NODES: [NodeRow<'static>; 6] = [
     ("d/x", NodeKind::File, b"foo", 3, Some(STAGED)),
     ("d/y", NodeKind::File, b"foo", 3, Some(STAGED)),
     ("l", NodeKind::Link, b"d", 1, Some(LATER)),
+];
+
+const REMOVED: EntryStatus<ObjectId, ()> = EntryStatus::Change(Change::Removed);
+
+/// Executability changed, and nothing else.
+const EXECUTABLE: EntryStatus<ObjectId, ()> = EntryStatus::Change(Change::Modification {
+    executable_bit_changed: true,
+    content_change: None,
+    set_entry_stat_size_zero: false,
+});
+
+/// The status of each entry, if it has one, how often `lstat` is called on entries' paths, and how many files of three
+/// bytes are read.
+type Answer = (Option<&'static EntryStatus<ObjectId, ()>>, usize, usize);
+
+/// Entries, whether they are executable files, and the results of the status with listings and without. The entries
+/// are alike: `lstat` is called on the paths of all, or of none.
+type Row = (&'static [&'static str], bool, Answer, Answer);
+
+static ROWS: [Row; 5] = [
+    (&["clean"], false, (None, 0, 0), (None, 1, 0)),
+    // A listed directory is no file.
+    (&["directory"], false, (Some(&REMOVED), 0, 0), (None, 1, 0)),
+    // A listed file is never executable. It is read, because its executability seems to have changed.
+    (
+        &["executable"],
+        true,
+        (Some(&EXECUTABLE), 0, 1),
+        (None, 1, 0),
+    ),
+    // The directory can't be listed.
+    (&["d/x", "d/y"], false, (None, 2, 0), (None, 2, 0)),
+    // No path leads through a link, whatever is listed below it.
+    (
+        &["l/x"],
+        false,
+        (Some(&REMOVED), 0, 0),
+        (Some(&REMOVED), 0, 0),
+    ),
 ];
 
 // Returns the worktree of the nodes, one of which is executable.
@@ -118,62 +90,15 @@ fn files(alloc: Global) -> Result<MemoryWorktree, Fail> {
     Ok(files)
 }
 
-// Returns whether an entry's status is the reported one.
-fn is_status(status: &EntryStatus<ObjectId, ()>, reported: Verdict) -> bool {
-    match (reported, status) {
-        (Verdict::Removed, _) => is_removed(status),
-        (
-            Verdict::Executable,
-            EntryStatus::Change(
-                Change::Modification {
-                    executable_bit_changed: true,
-                    content_change: None,
-                    set_entry_stat_size_zero: false,
-                },
-            ),
-        ) => true,
-        _ => false,
-    }
-}
-
-impl Row {
-    // Returns options by which executability counts if the first entry is executable.
-    fn options(&self, fscache: bool) -> Options {
-        let executable_bit = match self.entries.first() {
-            Some((_path, _stage, mode, _content)) => *mode == Mode::FileExecutable,
-            None => false,
-        };
-        Options {
-            fs: Capabilities {
-                symlink: true,
-                executable_bit,
-            },
-            fscache,
-            ..options()
-        }
-    }
-
-    // Returns whether this is reported for each entry, in order.
-    fn is_each(&self, report: &StatusReport<'_, ObjectId, ()>, reported: Verdict) -> bool {
-        if matches!(reported, Verdict::Nothing) {
-            return report.records.is_empty();
-        }
-        for (at, record) in report.records.iter().enumerate() {
-            if record.entry_index != at || !is_status(&record.status, reported) {
-                return false;
-            }
-        }
-        report.records.len() == self.entries.len()
-    }
-
-    // Returns whether a report is the expected result.
-    fn is_answer(&self, report: &StatusReport<'_, ObjectId, ()>, answer: Answer) -> bool {
-        let (reported, lstats, files) = answer;
-        let wanted = Outcome {
-            symlink_metadata_calls: lstats,
-            ..read(self.entries.len(), files, (files as u64).saturating_mul(3))
-        };
-        self.is_each(report, reported) && is_taken(&report.answer, &wanted)
+// Returns options by which executability counts, or not, and listings are used, or not.
+fn options_by(executable_bit: bool, fscache: bool) -> Options {
+    Options {
+        fs: Capabilities {
+            symlink: true,
+            executable_bit,
+        },
+        fscache,
+        ..options()
     }
 }
 
@@ -184,40 +109,99 @@ fn is_right<R: AllocGlobal + Threads + Wait>(
     row: &Row,
     fscache: bool,
 ) -> Result<bool, Fail> {
-    let alloc = rt.alloc();
-    let Some((first, _stage, _mode, _content)) = row.entries.first() else {
+    let (paths, executable_bit, listed, unlisted) = *row;
+    let (status, lstats, opens) = if fscache { listed } else { unlisted };
+    let (Some(first), alloc) = (paths.first(), rt.alloc()) else {
         return Ok(false);
     };
-    let index = index(alloc, row.entries)?;
-    let (lstats, opens) = (AtomicUsize::new(0), AtomicUsize::new(0));
-    let worktree = Counted {
-        worktree: files(alloc)?,
-        path: *first,
-        looks: &lstats,
-        opens: &opens,
+    let mode = if executable_bit {
+        Mode::FileExecutable
+    } else {
+        Mode::File
     };
+    let mut entries = Vec::new(alloc);
+    for path in paths {
+        entries.push((*path, 0, mode, FOO))?;
+    }
+    let (index, calls) = (index(alloc, &entries)?, Calls::new());
+    let worktree = counted(files(alloc)?, *first, &calls);
     let lister = Directories {
         alloc,
         directories: &DIRECTORIES,
     };
-    let report = listed_status(rt, &index, &worktree, lister, row.options(fscache));
-    let answer = if fscache { row.listed } else { row.unlisted };
-    Ok(
-        row.is_answer(&report, answer)
-            && lstats.load(Ordering::SeqCst) == answer.1.min(1)
-            && opens.load(Ordering::SeqCst) == answer.2,
-    )
+    let options = options_by(executable_bit, fscache);
+    let report = listed_status(rt, &index, &worktree, lister, options);
+    for record in &report.records {
+        if status != Some(&record.status) {
+            return Ok(false);
+        }
+    }
+    let records = if status.is_none() { 0 } else { paths.len() };
+    let bytes = (opens as u64).saturating_mul(3);
+    let wanted = Outcome {
+        symlink_metadata_calls: lstats,
+        ..read(paths.len(), opens, bytes)
+    };
+    let is_counted = calls.made() == (lstats.min(1), opens) && report.records.len() == records;
+    Ok(is_counted && is_taken(&report.answer, &wanted))
 }
 
 #[test]
 fn listings_replace_lstat(rt: HostRuntime) -> Result<(), Fail> {
     for row in &ROWS {
-        assert!(rt; is_right(&rt, row, true)?, "{}", row.name);
-        assert!(rt;
-            is_right(&rt, row, false)?,
-            "without listings: {}",
-            row.name
-        );
+        for fscache in [true, false] {
+            assert!(rt; is_right(&rt, row, fscache)?, "{:?}, {fscache}", row.0);
+        }
     }
+    Ok(())
+}
+
+/// The directory `d` lists two files.
+const TWO_FILES: [Directory<'static>; 1] = [("d", Some(&[("x", LISTED_FILE), ("y", LISTED_FILE)]))];
+
+/// Returns how often a status with one worker calls the lister, with three entries in `d`, one of which is gone. It has
+/// to report that one, or to fail if `lstat` of `d` is interrupted, and has to call `lstat` on `d` once.
+fn lists<R: AllocGlobal + Threads + Wait>(
+    rt: &R,
+    fscache: bool,
+    interrupted: bool,
+) -> Result<Option<usize>, Fail> {
+    let alloc = rt.alloc();
+    let index = foos(alloc, &["d/gone", "d/x", "d/y"])?;
+    let mut files = worktree(alloc, &NODES)?;
+    if interrupted {
+        files.plant(BStr::from("d"), Point::Lstat, Fault::Interrupted)?;
+    }
+    let (calls, lists) = (Calls::new(), AtomicUsize::new(0));
+    let worktree = counted(files, "d", &calls);
+    let directories = &TWO_FILES;
+    let lister = CountingLister {
+        lister: Directories { alloc, directories },
+        calls: &lists,
+        refuses: None,
+    };
+    let options = Options {
+        fscache,
+        chunk_size: 1,
+        thread_limit: Some(1),
+        ..options()
+    };
+    let report = listed_status(rt, &index, &worktree, lister, options);
+    let is_reported = match &report.answer {
+        Ok(_) => !interrupted && report.records.len() == 1,
+        Err(Error::Io(Fault::Interrupted)) => interrupted && report.records.is_empty(),
+        Err(_) => false,
+    };
+    let is_right = is_reported && calls.made() == (1, 0);
+    Ok(is_right.then_some(lists.load(Ordering::SeqCst)))
+}
+
+#[test]
+fn one_lstat_and_one_listing_of_a_directory_serve_its_entries(rt: HostRuntime) -> Result<(), Fail> {
+    assert_eq!(rt; lists(&rt, true, false)?, Some(1));
+    // Without the option the lister isn't called.
+    assert_eq!(rt; lists(&rt, false, false)?, Some(0));
+    // An `lstat` that is interrupted isn't made again.
+    assert_eq!(rt; lists(&rt, false, true)?, Some(0));
     Ok(())
 }

@@ -1,8 +1,12 @@
 //! The orders of public types whose contracts don't state which of two values is less: by fields or variants, in order.
 //! In most rows only one field isn't 0, so that each step shows which of two fields comes first.
 
-use crate::support::contents::Content;
-use gix_status::index::{EntryKind, Flags, HashKind, Mode, Stat};
+use crate::support::prelude::*;
+use Conflict::{
+    AddedByThem, AddedByUs, BothAdded, BothDeleted, BothModified, DeletedByThem, DeletedByUs,
+};
+use EntryKind::{Blob, BlobExecutable, Commit, Link, Tree};
+use gix_status::index::{EntryKind, Flags, HashKind, Stat};
 use gix_status::index_as_worktree::{Change, Conflict, ConflictIndexEntry, EntryStatus, Outcome};
 use std::cmp::Ordering;
 
@@ -21,40 +25,29 @@ fn are_ascending<T: Ord>(values: &[T]) -> bool {
 }
 
 /// Returns what a conflict keeps of an entry.
-fn kept(content: Content, stage: u32, mode: Mode) -> ConflictIndexEntry {
+fn kept(id: ObjectId, stage: u32, mode: Mode) -> ConflictIndexEntry {
     ConflictIndexEntry {
-        id: content.id(),
+        id,
         flags: Flags::from_stage(stage),
         mode,
     }
 }
 
 #[test]
-fn words_are_ordered_as_they_are_declared_and_kept_entries_by_id_flags_and_mode(rt: HostRuntime) {
+fn words_are_ordered_as_they_are_declared(rt: HostRuntime) {
     assert!(rt; are_ascending(&[HashKind::Sha1, HashKind::Sha256]));
-    let kinds = [
-        EntryKind::Tree,
-        EntryKind::Blob,
-        EntryKind::BlobExecutable,
-        EntryKind::Link,
-        EntryKind::Commit,
-    ];
-    assert!(rt; are_ascending(&kinds));
-    let conflicts = [
-        Conflict::BothDeleted,
-        Conflict::AddedByUs,
-        Conflict::DeletedByThem,
-        Conflict::AddedByThem,
-        Conflict::DeletedByUs,
-        Conflict::BothAdded,
-        Conflict::BothModified,
-    ];
-    assert!(rt; are_ascending(&conflicts));
+    assert!(rt; are_ascending(&[Tree, Blob, BlobExecutable, Link, Commit]));
+    assert!(rt; are_ascending(&[BothDeleted, AddedByUs, DeletedByThem, AddedByThem]));
+    assert!(rt; are_ascending(&[AddedByThem, DeletedByUs, BothAdded, BothModified]));
+}
+
+#[test]
+fn kept_entries_are_ordered_by_id_flags_and_mode(rt: HostRuntime) {
     let entries = [
-        kept(Content::Foo, 1, Mode::File),
-        kept(Content::Foo, 1, Mode::Symlink),
-        kept(Content::Foo, 2, Mode::File),
-        kept(Content::Bar, 1, Mode::File),
+        kept(FOO, 1, Mode::File),
+        kept(FOO, 1, Mode::Symlink),
+        kept(FOO, 2, Mode::File),
+        kept(BAR, 1, Mode::File),
     ];
     assert!(rt; are_ascending(&entries));
 }
@@ -87,16 +80,16 @@ fn modified(executable: bool, content_change: Option<u32>, to_zero: bool) -> Cha
     }
 }
 
-fn type_change(worktree_mode: Mode) -> Change<u32, u32> {
-    Change::TypeChange { worktree_mode }
-}
-
 /// Returns the change at this position, of ten in order.
 fn change_at(place: usize) -> Change<u32, u32> {
     match place {
         0 => Change::Removed,
-        1 => type_change(Mode::File),
-        2 => type_change(Mode::Symlink),
+        1 => Change::TypeChange {
+            worktree_mode: Mode::File,
+        },
+        2 => Change::TypeChange {
+            worktree_mode: Mode::Symlink,
+        },
         3 => modified(false, None, false),
         4 => modified(false, None, true),
         5 => modified(false, Some(0), false),
@@ -107,14 +100,12 @@ fn change_at(place: usize) -> Change<u32, u32> {
     }
 }
 
-/// Returns a conflict with one entry, of stage 1 or of stage 3.
-fn conflict(summary: Conflict, is_base: bool) -> EntryStatus<u32, u32> {
-    let entry = Some(kept(Content::Foo, 1, Mode::File));
-    let entries = if is_base {
-        [entry, None, None]
-    } else {
-        [None, None, entry]
-    };
+/// Returns a conflict with one entry.
+fn conflict(summary: Conflict, stage: usize) -> EntryStatus<u32, u32> {
+    let mut entries = [None, None, None];
+    if 0 < stage && stage < 4 {
+        entries[stage - 1] = Some(kept(FOO, 1, Mode::File));
+    }
     EntryStatus::Conflict { summary, entries }
 }
 
@@ -125,9 +116,9 @@ fn status_at(place: usize) -> EntryStatus<u32, u32> {
         ..Stat::default()
     };
     match place {
-        0 => conflict(Conflict::BothDeleted, false),
-        1 => conflict(Conflict::BothDeleted, true),
-        2 => conflict(Conflict::AddedByUs, false),
+        0 => conflict(BothDeleted, 3),
+        1 => conflict(BothDeleted, 1),
+        2 => conflict(AddedByUs, 3),
         3 => EntryStatus::Change(Change::Removed),
         4 => EntryStatus::Change(Change::SubmoduleModification(0)),
         5 => EntryStatus::NeedsUpdate(Stat::default()),
@@ -139,19 +130,16 @@ fn status_at(place: usize) -> EntryStatus<u32, u32> {
 #[test]
 fn outcomes_changes_and_statuses_are_ordered_by_variants_and_fields(rt: HostRuntime) {
     assert!(rt; outcome_at(0) == Outcome::default());
-    for place in 0..13usize {
-        let next = place.saturating_add(1);
+    for at in 0..13usize {
+        let next = at.saturating_add(1);
+        assert!(rt; is_below(&outcome_at(at), &outcome_at(next)), "at {at}");
         assert!(rt;
-            is_below(&outcome_at(place), &outcome_at(next)),
-            "at {place}"
+            at > 8 || is_below(&change_at(at), &change_at(next)),
+            "at {at}"
         );
-    }
-    for place in 0..9usize {
-        let next = place.saturating_add(1);
-        assert!(rt; is_below(&change_at(place), &change_at(next)), "at {place}");
-    }
-    for place in 0..7usize {
-        let next = place.saturating_add(1);
-        assert!(rt; is_below(&status_at(place), &status_at(next)), "at {place}");
+        assert!(rt;
+            at > 6 || is_below(&status_at(at), &status_at(next)),
+            "at {at}"
+        );
     }
 }

@@ -1,23 +1,25 @@
 //! Each fault at each call on each path: three entries, two sizes of pieces, two numbers of workers.
 
-use crate::call::inputs::{NodeRow, foo_entry, index, later_file, worktree};
-use crate::call::reports::{
-    Says, Wanted, are_records, is_failed_by, is_taken, read, status_by_pieces,
-};
-use crate::support::contents::Content;
-use crate::support::faults::FAULTS;
-use crate::support::stats::LATER;
-use bstr::BStr;
-use gix_status::index::{IndexError, Mode, State};
+use crate::call::reports::{Says, Wanted, is_report, read, status_by_pieces};
+use crate::support::prelude::*;
 use gix_status::index_as_worktree::Outcome;
-use gix_status::worktree::{Fault, MemoryWorktree, NodeKind, Point, TreeError};
-use std::alloc::{AllocError, Global};
-use std::sync::Wait;
-use std::test::Fail;
-use std::thread::Threads;
+use gix_status::worktree::{Point, TreeError};
 
 /// Sizes of pieces and numbers of workers.
 const WAYS: [(usize, usize); 4] = [(1, 1), (1, 3), (2, 1), (2, 3)];
+
+/// Every fault.
+const FAULTS: [Fault; 9] = [
+    Fault::NotFound,
+    Fault::NotADirectory,
+    Fault::PermissionDenied,
+    Fault::Interrupted,
+    Fault::IllformedUtf8,
+    Fault::UnexpectedEnd,
+    Fault::NotNormal,
+    Fault::Memory,
+    Fault::Other(5),
+];
 
 /// The folder above the second entry.
 const FOLDER: &str = "d";
@@ -35,165 +37,86 @@ const POINTS: [Point; 9] = [
     Point::Read(5),
 ];
 
-/// The path of an entry, and the content of its file or link, which was changed after the entry was staged.
-#[derive(Clone, Copy)]
-struct Site {
-    path: &'static str,
-    content: Content,
-    len: u64,
-    is_link: bool,
-}
+/// The path of an entry, the content of its file or link, which was changed after the entry was staged, its length, and
+/// whether it is a link.
+type Site = (&'static str, ObjectId, u64, bool);
 
-/// The three entries.
 const SITES: [Site; 3] = [
-    Site {
-        path: "a",
-        content: Content::Bar,
-        len: 3,
-        is_link: false,
-    },
-    Site {
-        path: "d/l",
-        content: Content::Bars,
-        len: 4,
-        is_link: true,
-    },
-    Site {
-        path: "z",
-        content: Content::Bars,
-        len: 4,
-        is_link: false,
-    },
+    ("a", BAR, 3, false),
+    ("d/l", BARS, 4, true),
+    ("z", BARS, 4, false),
 ];
 
 fn entries(alloc: Global) -> Result<State, IndexError> {
-    let link = ("d/l", 0, Mode::Symlink, Content::Foo);
+    let link = ("d/l", 0, Mode::Symlink, FOO);
     index(alloc, &[foo_entry("a"), link, foo_entry("z")])
 }
 
 fn nodes(alloc: Global) -> Result<MemoryWorktree, TreeError> {
-    let link: NodeRow<'_> = ("d/l", NodeKind::Link, b"bars", 4, Some(LATER));
+    let link = ("d/l", NodeKind::Link, b"bars".as_slice(), 4, Some(LATER));
     worktree(
         alloc,
         &[later_file("a", b"bar"), link, later_file("z", b"bars")],
     )
 }
 
-/// A fault that is planted at a call on a path.
-#[derive(Clone, Copy)]
-struct Planted {
-    path: &'static str,
-    point: Point,
-    fault: Fault,
+/// The path and the call at which a fault is planted, and the fault.
+type Planted = (&'static str, Point, Fault);
+
+// Returns whether a fault is planted at the folder above an entry.
+fn is_above(planted: Planted, site: &Site) -> bool {
+    planted.0 == FOLDER && site.0.as_bytes().starts_with(b"d/")
 }
 
-/// The effect of a planted fault on the status of an entry.
-#[derive(Clone, Copy)]
-enum Effect {
-    /// The call isn't made for this entry.
-    Nothing,
-    /// Nothing is at the path, or at the folder above.
-    Removes { is_above: bool },
-    Fails(Fault),
-}
-
-impl Planted {
-    fn is_at(self, path: &str) -> bool {
-        self.path.as_bytes() == path.as_bytes()
-    }
-
-    // Returns whether it is planted at the folder above an entry.
-    fn is_above(self, site: &Site) -> bool {
-        self.is_at(FOLDER) && site.path.as_bytes().starts_with(b"d/")
-    }
-
-    // Returns whether the status of an entry makes the call.
-    fn is_met(self, site: &Site) -> bool {
-        let is_here = self.is_at(site.path);
-        match self.point {
-            Point::Lstat => is_here || self.is_above(site),
-            Point::Open => is_here && !site.is_link,
-            Point::ReadLink => is_here && site.is_link,
-            // The length of a file is known, and no more is read than that.
-            Point::Read(count) => is_here && !site.is_link && count < site.len,
-        }
-    }
-
-    // If `lstat` finds nothing, the entry's file is gone. Any other fault ends the status.
-    fn effect(self, site: &Site) -> Effect {
-        if !self.is_met(site) {
-            return Effect::Nothing;
-        }
-        let is_absence = self.fault == Fault::NotFound || self.fault == Fault::NotADirectory;
-        if self.point == Point::Lstat && is_absence {
-            return Effect::Removes {
-                is_above: self.is_above(site),
-            };
-        }
-        Effect::Fails(self.fault)
+// Returns whether the status of an entry makes the call.
+fn is_met(planted: Planted, site: &Site) -> bool {
+    let (path, _content, len, is_link) = *site;
+    let is_here = planted.0 == path;
+    match planted.1 {
+        Point::Lstat => is_here || is_above(planted, site),
+        Point::Open => is_here && !is_link,
+        Point::ReadLink => is_here && is_link,
+        // The length of a file is known, and no more is read than that.
+        Point::Read(count) => is_here && !is_link && count < len,
     }
 }
 
-/// The records of a status, the fault by which it fails, if any, and its counts.
-#[derive(Drop)]
-struct Expected {
-    records: Vec<Wanted<'static>>,
-    fault: Option<Fault>,
-    lstats: usize,
-    files: usize,
-    bytes: u64,
+// Returns whether nothing seems to be at the path for which the call is made.
+fn is_absence(planted: Planted) -> bool {
+    let (_path, point, fault) = planted;
+    point == Point::Lstat && (fault == Fault::NotFound || fault == Fault::NotADirectory)
 }
 
-impl Expected {
-    // Adds an entry whose file or link is read.
-    fn add_changed(&mut self, at: usize, site: &Site) -> Result<(), AllocError> {
-        self.lstats = self.lstats.saturating_add(1);
-        self.files = self.files.saturating_add(1);
-        self.bytes = self.bytes.saturating_add(site.len);
-        self.records
-            .push((at, site.path, Says::Changed(site.content)))?;
-        Ok(())
-    }
+/// The records of a status, and its outcome or the fault by which it fails.
+type Expected = (Vec<Wanted<'static>>, Result<Outcome, Fault>);
 
-    // Adds an entry without a file. Calls of `lstat` on the folder above aren't counted.
-    fn add_removed(&mut self, at: usize, site: &Site, is_above: bool) -> Result<(), AllocError> {
-        self.lstats = self.lstats.saturating_add(if is_above { 0 } else { 1 });
-        self.records.push((at, site.path, Says::Removed))?;
-        Ok(())
-    }
-
-    fn outcome(&self) -> Outcome {
-        Outcome {
-            symlink_metadata_calls: self.lstats,
-            ..read(SITES.len(), self.files, self.bytes)
-        }
-    }
-}
-
-/// Returns the records before the first entry that fails, and its fault.
+/// Returns the records before the first entry that fails, and its fault. An entry is removed if `lstat` finds nothing at
+/// its path or at the folder above, whose `lstat` isn't counted.
 fn expected_for(alloc: Global, planted: Option<Planted>) -> Result<Expected, AllocError> {
-    let mut expected = Expected {
-        records: Vec::new(alloc),
-        fault: None,
-        lstats: 0,
-        files: 0,
-        bytes: 0,
-    };
+    let (mut records, mut lstats, mut files, mut bytes) = (Vec::new(alloc), 0usize, 0usize, 0u64);
     for (at, site) in SITES.iter().enumerate() {
-        let effect = match planted {
-            Some(planted) => planted.effect(site),
-            None => Effect::Nothing,
-        };
-        match effect {
-            Effect::Nothing => expected.add_changed(at, site)?,
-            Effect::Removes { is_above } => expected.add_removed(at, site, is_above)?,
-            Effect::Fails(fault) => {
-                expected.fault = Some(fault);
-                return Ok(expected);
+        let (path, content, len, _is_link) = *site;
+        match planted {
+            Some(planted) if is_met(planted, site) => {
+                if !is_absence(planted) {
+                    return Ok((records, Err(planted.2)));
+                }
+                lstats = lstats.saturating_add(usize::from(!is_above(planted, site)));
+                records.push((at, path, Says::Removed))?;
+            }
+            _ => {
+                lstats = lstats.saturating_add(1);
+                files = files.saturating_add(1);
+                bytes = bytes.saturating_add(len);
+                records.push((at, path, Says::Changed(content)))?;
             }
         }
     }
-    Ok(expected)
+    let outcome = Outcome {
+        symlink_metadata_calls: lstats,
+        ..read(SITES.len(), files, bytes)
+    };
+    Ok((records, Ok(outcome)))
 }
 
 /// Returns whether a status is as expected, each way.
@@ -201,19 +124,16 @@ fn is_expected<R: AllocGlobal + Threads + Wait>(
     rt: &R,
     index: &State,
     worktree: &MemoryWorktree,
-    expected: &Expected,
-) -> bool {
+    planted: Option<Planted>,
+) -> Result<bool, Fail> {
+    let (records, end) = expected_for(rt.alloc(), planted)?;
     for (chunk_size, workers) in WAYS {
         let report = status_by_pieces(rt, index, worktree, chunk_size, workers);
-        let is_ended = match expected.fault {
-            Some(fault) => is_failed_by(&report.answer, fault),
-            None => is_taken(&report.answer, &expected.outcome()),
-        };
-        if !is_ended || !are_records(&report.records, &expected.records) {
-            return false;
+        if !is_report(&report, &records, &end) {
+            return Ok(false);
         }
     }
-    true
+    Ok(true)
 }
 
 /// Returns whether a status is as expected while each fault is planted at a call on a path. After the last one is
@@ -225,16 +145,13 @@ fn is_right_at<R: AllocGlobal + Threads + Wait>(
 ) -> Result<bool, Fail> {
     let (index, mut worktree) = (entries(rt.alloc())?, nodes(rt.alloc())?);
     for fault in FAULTS {
-        let planted = Planted { path, point, fault };
         worktree.plant(BStr::from(path), point, fault)?;
-        let expected = expected_for(rt.alloc(), Some(planted))?;
-        if !is_expected(rt, &index, &worktree, &expected) {
+        if !is_expected(rt, &index, &worktree, Some((path, point, fault)))? {
             return Ok(false);
         }
     }
     worktree.clear(BStr::from(path));
-    let unplanted = expected_for(rt.alloc(), None)?;
-    Ok(is_expected(rt, &index, &worktree, &unplanted))
+    is_expected(rt, &index, &worktree, None)
 }
 
 #[test]

@@ -1,14 +1,19 @@
 //! Statuses by ids, and checks of their reports.
 
-use crate::support::contents::Content;
-use crate::support::stats::{LATER, STAGED, stat};
-use gix_status::index::{ObjectId, State};
+use crate::support::inputs::stat;
+use crate::support::prelude::*;
 use gix_status::index_as_worktree::traits::HashEq;
 use gix_status::index_as_worktree::{Change, EntryStatus, Error, Options, Outcome, Record};
-use gix_status::worktree::{Fault, Worktree};
 use status_callers::statuses::{StatusReport, options, request_with, status_of};
-use std::sync::Wait;
-use std::thread::Threads;
+
+/// Returns the usual options, with pieces of so many entries and this limit of threads.
+pub fn by_pieces(chunk_size: usize, thread_limit: Option<usize>) -> Options {
+    Options {
+        chunk_size,
+        thread_limit,
+        ..options()
+    }
+}
 
 /// Calls the status by ids for all paths without a filter, with pieces of so many entries and at most so many workers.
 pub fn status_by_pieces<'index, R: AllocGlobal + Threads + Wait, W: Worktree + Sync>(
@@ -21,12 +26,7 @@ pub fn status_by_pieces<'index, R: AllocGlobal + Threads + Wait, W: Worktree + S
 where
     W::File: Send,
 {
-    let options = Options {
-        chunk_size,
-        thread_limit: Some(workers),
-        ..options()
-    };
-    let request = request_with(rt.alloc(), options);
+    let request = request_with(rt.alloc(), by_pieces(chunk_size, Some(workers)));
     status_of(rt, index, worktree, HashEq, request, None)
 }
 
@@ -36,7 +36,7 @@ pub enum Says {
     /// No file is there.
     Removed,
     /// The file has another content.
-    Changed(Content),
+    Changed(ObjectId),
     /// The file has the same content of three bytes, and was written after the entry was staged.
     Updated,
     /// The file has the same content of three bytes, and was written when the entry was staged.
@@ -64,22 +64,15 @@ pub fn is_at<T, U>(record: &Record<'_, T, U>, place: usize, path: &str) -> bool 
     record.entry_index == place && record.relative_path.as_bytes() == path.as_bytes()
 }
 
-fn is_said(status: &EntryStatus<ObjectId, ()>, says: Says) -> bool {
-    match says {
-        Says::Removed => is_removed(status),
-        Says::Changed(content) => is_changed(status, &content.id()),
-        Says::Updated => {
-            matches!(status, EntryStatus::NeedsUpdate(found) if *found == stat(LATER))
-        }
-        Says::Racy => {
-            matches!(status, EntryStatus::NeedsUpdate(found) if *found == stat(STAGED))
-        }
+/// Returns whether this is the status of an entry.
+pub fn is_said(status: &EntryStatus<ObjectId, ()>, says: Says) -> bool {
+    match (says, status) {
+        (Says::Removed, EntryStatus::Change(Change::Removed)) => true,
+        (Says::Changed(content), _) => is_changed(status, &content),
+        (Says::Updated, EntryStatus::NeedsUpdate(found)) => *found == stat(LATER),
+        (Says::Racy, EntryStatus::NeedsUpdate(found)) => *found == stat(STAGED),
+        _ => false,
     }
-}
-
-/// Returns whether a status reports that no file is there.
-pub fn is_removed<T, U>(status: &EntryStatus<T, U>) -> bool {
-    matches!(status, EntryStatus::Change(Change::Removed))
 }
 
 /// Returns whether a status reports nothing but other content, with this result of its comparer.
@@ -116,6 +109,14 @@ pub fn read(entries: usize, files: usize, bytes: u64) -> Outcome {
     }
 }
 
+/// Returns the same outcome, with so many entries whose stat is to be updated.
+pub fn updated(updates: usize, outcome: Outcome) -> Outcome {
+    Outcome {
+        entries_to_update: updates,
+        ..outcome
+    }
+}
+
 /// Returns whether a status succeeded with this outcome.
 pub fn is_taken(answer: &Result<Outcome, Error>, wanted: &Outcome) -> bool {
     match answer {
@@ -125,7 +126,7 @@ pub fn is_taken(answer: &Result<Outcome, Error>, wanted: &Outcome) -> bool {
 }
 
 /// Returns whether a status failed by this fault of a worktree or a filter. Two faults have errors of their own.
-pub fn is_failed_by(answer: &Result<Outcome, Error>, fault: Fault) -> bool {
+fn is_failed_by(answer: &Result<Outcome, Error>, fault: Fault) -> bool {
     match answer {
         Err(Error::IllformedUtf8) => fault == Fault::IllformedUtf8,
         Err(Error::Memory) => fault == Fault::Memory,
@@ -134,4 +135,17 @@ pub fn is_failed_by(answer: &Result<Outcome, Error>, fault: Fault) -> bool {
         }
         _ => false,
     }
+}
+
+/// Returns whether a status has these records, and ends with this outcome or fault.
+pub fn is_report(
+    report: &StatusReport<'_, ObjectId, ()>,
+    wanted: &[Wanted<'_>],
+    end: &Result<Outcome, Fault>,
+) -> bool {
+    let is_ended = match end {
+        Ok(outcome) => is_taken(&report.answer, outcome),
+        Err(fault) => is_failed_by(&report.answer, *fault),
+    };
+    is_ended && are_records(&report.records, wanted)
 }

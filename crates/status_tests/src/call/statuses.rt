@@ -3,27 +3,21 @@
 ghost use Rattle.std.specs.Prelude.{◌≡◌, ◌++◌, ◌∷◌, [], Some, OnOk, OnErr, slice_get};
 ghost use Rattle.bstr.specs.BStr.{bstr_bytes};
 
-use bstr::BStr;
-use gix_status::index::{Entry, ObjectId, State};
+use crate::support::prelude::*;
+use gix_status::index::Entry;
 use gix_status::index_as_worktree::traits::HashEq;
 use gix_status::index_as_worktree::{
-    Context, EntryStatus, Options, Recorder, VisitEntry, index_as_worktree,
+    Context, EntryStatus, Error, Options, Outcome, Recorder, VisitEntry, index_as_worktree,
     index_as_worktree_without_threads,
 };
-use gix_status::worktree::{
-    AllPaths, Lister, MemoryObjects, NoFilter, NoLister, NoSubmodules, Worktree,
-};
+use gix_status::worktree::Lister;
 use status_callers::statuses::{StatusReport, report_to, request_with};
-use std::alloc::{AllocError, Global};
-use std::sync::Wait;
-use std::sync::atomic::{AtomicBool, Ordering};
-use std::thread::Threads;
 
 /// A collector that passes each record on to another one, and sets its flag, if it has one.
 #[derive(Drop)]
 pub struct FlagSetter<'a, V> {
-    inner: V,
-    flag: Option<&'a AtomicBool>,
+    pub inner: V,
+    pub flag: Option<&'a AtomicBool>,
 }
 
 impl<'index, 'a, V: VisitEntry<'index>> VisitEntry<'index> for FlagSetter<'a, V>
@@ -61,12 +55,46 @@ where
     }
 }
 
-/// Calls the status by ids with an interrupt flag. The collector sets `of_collector` at each record.
+/// Reports to `collector` a status by ids in this thread alone.
+fn report_without_threads<
+    'index,
+    W: Worktree,
+    V: VisitEntry<'index, ContentChange = ObjectId, SubmoduleStatus = ()>,
+>(
+    alloc: Global,
+    index: &'index State,
+    worktree: &W,
+    collector: &mut V,
+    options: Options,
+    interrupt: Option<&AtomicBool>,
+) -> Result<Outcome, Error> {
+    let context = Context {
+        pathspec: AllPaths,
+        filter: NoFilter,
+        lister: NoLister,
+        should_interrupt: interrupt,
+    };
+    index_as_worktree_without_threads(
+        alloc,
+        index,
+        worktree,
+        collector,
+        HashEq,
+        NoSubmodules,
+        MemoryObjects::new(alloc),
+        context,
+        options,
+    )
+}
+
+/// Calls the status by ids with an interrupt flag, with or without threads. The collector sets `of_collector` at each
+/// record.
 pub fn interruptible_status<'index, R: AllocGlobal + Threads + Wait, W: Worktree + Sync>(
     rt: &R,
     index: &'index State,
     worktree: &W,
     options: Options,
+    is_serial: bool,
     of_collector: Option<&AtomicBool>,
     interrupt: &AtomicBool,
 ) -> StatusReport<'index, ObjectId, ()>
@@ -78,51 +106,22 @@ where
         inner: Recorder::new(alloc),
         flag: of_collector,
     };
-    let answer = report_to(
-        rt,
-        alloc,
-        index,
-        worktree,
-        &mut collector,
-        HashEq,
-        request_with(alloc, options),
-        Some(interrupt),
-    );
-    StatusReport {
-        records: collector.inner.records,
-        answer,
-    }
-}
-
-/// Calls the same without threads. The collector sets the flag at each record.
-pub fn status_without_threads_until_record<'index, W: Worktree>(
-    alloc: Global,
-    index: &'index State,
-    worktree: &W,
-    options: Options,
-    interrupt: &AtomicBool,
-) -> StatusReport<'index, ObjectId, ()> {
-    let mut collector = FlagSetter {
-        inner: Recorder::new(alloc),
-        flag: Some(interrupt),
+    let flag = Some(interrupt);
+    let answer = if is_serial {
+        report_without_threads(alloc, index, worktree, &mut collector, options, flag)
+    } else {
+        let request = request_with(alloc, options);
+        report_to(
+            rt,
+            alloc,
+            index,
+            worktree,
+            &mut collector,
+            HashEq,
+            request,
+            flag,
+        )
     };
-    let context = Context {
-        pathspec: AllPaths,
-        filter: NoFilter,
-        lister: NoLister,
-        should_interrupt: Some(interrupt),
-    };
-    let answer = index_as_worktree_without_threads(
-        alloc,
-        index,
-        worktree,
-        &mut collector,
-        HashEq,
-        NoSubmodules,
-        MemoryObjects::new(alloc),
-        context,
-        options,
-    );
     StatusReport {
         records: collector.inner.records,
         answer,

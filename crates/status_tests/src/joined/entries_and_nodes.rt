@@ -1,180 +1,179 @@
-//! The records of an index and the nodes of a walk, in one report.
+//! The records of an index and the nodes of a walk, in one report: which are in it, in which order, and how far it gets
+//! with an interrupt flag.
 
-use crate::joined::details::Detail;
-use crate::joined::endings::Ending;
-use crate::joined::entries::{RowEntry, RowNode};
-use crate::joined::interfaces::WalkKind;
-use crate::joined::rows::{PLAIN, REWRITTEN, Row, is_right};
-use crate::support::stats::LISTED_FILE;
+use crate::joined::interfaces::{TrackerKind, WalkKind};
+use crate::joined::rows::{A, FILE_B, FILE_C, PLAIN, RENAMES, Row, is_right};
+use crate::support::prelude::*;
+use NodeKind::{File, Link, Other};
+use WalkKind::Passes;
 use status_callers::joined::walks::{B, C, Found, UNTRACKED};
-use status_callers::listers::Directory;
-use status_index::Mode;
-use status_walk::{Kind, Status};
-use std::test::Fail;
+use status_walk::Status;
 
-const A: Found<'static> = Found {
+const ENTRY_C: EntryRow<'static> = ("c", 0, Mode::File, FOO);
+
+const FOUND_A: Found<'static> = Found {
     path: "a",
     ..UNTRACKED
 };
 
-/// One node of each status and kind.
-const NODES: [Found<'static>; 6] = [
-    Found {
-        status: Status::Tracked,
-        ..A
-    },
-    Found {
-        disk_kind: Some(Kind::Untrackable),
-        ..B
-    },
-    Found {
-        status: Status::Ignored,
-        disk_kind: Some(Kind::Untrackable),
-        ..C
-    },
-    Found {
-        path: "d",
-        status: Status::Ignored,
-        disk_kind: Some(Kind::Directory),
-        collapsed: Some(Status::Untracked),
-    },
-    Found {
-        path: "e",
-        status: Status::Pruned,
-        disk_kind: None,
-        collapsed: None,
-    },
-    Found {
-        path: "f",
-        disk_kind: Some(Kind::Repository),
-        ..UNTRACKED
-    },
-];
-
-/// The untracked directory `d`, which a walk passes in place of ignored nodes.
-const COLLAPSED: Found<'static> = Found {
-    path: "d",
-    disk_kind: Some(Kind::Directory),
-    collapsed: Some(Status::Ignored),
-    ..UNTRACKED
+const IGNORED: Found<'static> = Found {
+    status: Status::Ignored,
+    ..B
 };
 
-/// A listing of the root with the file `a`, as it was staged with the content `foo`.
-const LISTED: &[Directory<'static>] = &[("", Some(&[("a", LISTED_FILE)]))];
+const TRACKED: Found<'static> = Found {
+    status: Status::Tracked,
+    ..B
+};
 
-static ROWS: [Row; 11] = [
+/// A walk passes its nodes in its own order.
+const BACKWARDS: Row<'static> = Row {
+    entries: &[A, ENTRY_C],
+    walk: Passes(&[B, FOUND_A], None),
+    lines: "0 Removed a\n- Added Untracked a\n- Added Untracked b\n1 Removed c\n",
+    end: "2 nodes",
+    ..PLAIN
+};
+
+/// A submodule with a file.
+const IN_SUBMODULE: Row<'static> = Row {
+    entries: &[("sub", 0, Mode::Commit, FOO)],
+    nodes: &[("sub/x", File, b"foo", 3, Some(STAGED))],
+    end: "0 nodes",
+    ..PLAIN
+};
+
+static ROWS: [Row; 6] = [
     // A node that can't be tracked is passed by the walk, and not reported.
     Row {
-        name: "what is untracked comes beside what was removed",
-        entries: &[("a", RowEntry::Foo)],
+        entries: &[A],
         nodes: &[
-            ("b", RowNode::File("foo")),
-            ("c/d", RowNode::Link("b")),
-            ("p", RowNode::Other),
+            FILE_B,
+            ("c/d", Link, b"b", 1, Some(STAGED)),
+            ("p", Other, b"", 0, Some(STAGED)),
         ],
-        lines: "0 removed \"a\"\n- added \"b\"\n- added \"c/d\"\n",
-        ending: Ending::Whole(Some(3), None),
+        lines: "0 Removed a\n- Added Untracked b\n- Added Untracked c/d\n",
+        end: "3 nodes",
         ..PLAIN
     },
+    // Nothing in a submodule is walked.
+    IN_SUBMODULE,
+    // A submodule reports a type of the caller's.
     Row {
-        name: "nothing in a submodule is walked",
-        entries: &[("sub", RowEntry::Mode(Mode::Commit))],
-        nodes: &[("sub/x", RowNode::File("foo"))],
-        ..PLAIN
-    },
-    Row {
-        name: "at equal paths the index comes first",
-        entries: &[("a", RowEntry::Foo), ("c", RowEntry::Foo)],
-        walk: WalkKind::Passes(&[B, A], None),
-        lines: "0 removed \"a\"\n- added \"a\"\n- added \"b\"\n1 removed \"c\"\n",
-        ending: Ending::Whole(Some(2), None),
-        ..PLAIN
-    },
-    Row {
-        name: "in no order, the index comes first, and the nodes in the order of the walk",
-        entries: &[("a", RowEntry::Foo), ("c", RowEntry::Foo)],
-        walk: WalkKind::Passes(&[B, A], None),
-        sorted: false,
-        lines: "0 removed \"a\"\n1 removed \"c\"\n- added \"b\"\n- added \"a\"\n",
-        ending: Ending::Whole(Some(2), None),
-        ..PLAIN
-    },
-    Row {
-        name: "what needs an update or is ignored has no summary",
-        entries: &[("a", RowEntry::Foo)],
-        nodes: &[("a", RowNode::Later("foo"))],
-        walk: WalkKind::Passes(
-            &[Found {
-                status: Status::Ignored,
-                ..B
-            }],
-            None,
-        ),
-        lines: "0 update \"a\"\n- ignored \"b\"\n",
-        details: &[(0, Detail::NoSummary), (1, Detail::NoSummary)],
-        ending: Ending::Whole(Some(1), None),
-        ..PLAIN
-    },
-    Row {
-        name: "a link in place of a file, a file to be added and a conflict have words of their own",
-        entries: &[
-            ("a", RowEntry::Foo),
-            ("b", RowEntry::IntentToAdd),
-            ("c", RowEntry::Stage(2)),
-        ],
-        nodes: &[("a", RowNode::Link("foo")), ("b", RowNode::File("foo"))],
-        lines: "0 type \"a\"\n1 intent \"b\"\n2 conflict \"c\"\n",
-        ..PLAIN
-    },
-    Row {
-        name: "what is tracked or can't be is dropped",
-        walk: WalkKind::Passes(&NODES, None),
-        lines: "- ignored \"d\"\n- pruned \"e\"\n- added \"f\"\n",
-        ending: Ending::Whole(Some(6), None),
-        ..PLAIN
-    },
-    Row {
-        name: "the status of a directory that stands for its nodes is reported",
-        walk: WalkKind::Passes(&[A, COLLAPSED], None),
-        lines: "- added \"a\"\n- added \"d\"\n",
-        details: &[(0, Detail::Node(A)), (1, Detail::Node(COLLAPSED))],
-        ending: Ending::Whole(Some(2), None),
-        ..PLAIN
-    },
-    Row {
-        name: "a submodule reports a type of the caller's",
-        entries: &[("sub", RowEntry::Mode(Mode::Commit))],
-        nodes: &[("sub", RowNode::Directory)],
         submodules: Some(Some(7)),
-        lines: "0 modified \"sub\"\n",
-        details: &[(0, Detail::Submodule(Some(7)))],
+        lines: "0 Some(7) sub\n",
+        ..IN_SUBMODULE
+    },
+    BACKWARDS,
+    Row {
+        sorted: false,
+        lines: "0 Removed a\n1 Removed c\n- Added Untracked b\n- Added Untracked a\n",
+        ..BACKWARDS
+    },
+    // What needs an update or is ignored has no summary.
+    Row {
+        entries: &[A],
+        nodes: &[("a", File, b"foo", 3, Some(LATER))],
+        walk: Passes(&[IGNORED], None),
+        lines: "0 none a\n- none Ignored b\n",
+        end: "1 nodes",
         ..PLAIN
-    },
-    Row {
-        name: "without fscache no listing is read",
-        entries: &[("a", RowEntry::Foo), ("b", RowEntry::Foo)],
-        nodes: &[("c", RowNode::File("foo"))],
-        directories: LISTED,
-        lines: "1 removed \"b\"\n- renamed \"a\" \"c\"\n",
-        ending: Ending::Whole(Some(1), Some((1, 0))),
-        ..REWRITTEN
-    },
-    Row {
-        name: "entries are looked up in listings and nodes aren't",
-        entries: &[("a", RowEntry::Foo), ("b", RowEntry::Foo)],
-        nodes: &[("c", RowNode::File("foo"))],
-        directories: LISTED,
-        fscache: true,
-        lines: "- renamed \"b\" \"c\"\n",
-        ending: Ending::Whole(Some(1), Some((1, 0))),
-        ..REWRITTEN
     },
 ];
 
 #[test]
 fn entries_and_nodes_are_reported_side_by_side(rt: HostRuntime) -> Result<(), Fail> {
-    for row in &ROWS {
-        assert!(rt; is_right(&rt, row)?, "{}", row.name);
+    for (at, row) in ROWS.iter().enumerate() {
+        assert!(rt; is_right(&rt, row)?, "row {at}");
+    }
+    Ok(())
+}
+
+/// The entry `a` is gone, `b` and `c` are untracked, and a flag is passed that isn't set.
+const UNSET: Row<'static> = Row {
+    entries: &[A],
+    nodes: &[FILE_B, FILE_C],
+    flag: Some(false),
+    lines: "0 Removed a\n- Added Untracked b\n- Added Untracked c\n",
+    end: "2 nodes",
+    ..PLAIN
+};
+
+static FLAGS: [Row; 4] = [
+    UNSET,
+    // The walk sees the flag when it passes its first node, even if that one is dropped.
+    Row {
+        nodes: &[("a", File, b"foo", 3, Some(STAGED)), FILE_B, FILE_C],
+        flag: Some(true),
+        lines: "- Added Untracked b\n",
+        end: "cut after 0, 0; 1 nodes, cancelled",
+        ..UNSET
+    },
+    Row {
+        walk: Passes(&[TRACKED, C], None),
+        flag: Some(true),
+        lines: "",
+        end: "cut after 0, 0; 1 nodes, cancelled",
+        ..UNSET
+    },
+    Row {
+        dirwalk: false,
+        flag: Some(true),
+        lines: "",
+        end: "cut after 0, 0; ",
+        ..UNSET
+    },
+];
+
+#[test]
+fn a_flag_that_is_set_ends_both_halves(rt: HostRuntime) -> Result<(), Fail> {
+    for (at, row) in FLAGS.iter().enumerate() {
+        assert!(rt; is_right(&rt, row)?, "row {at}");
+    }
+    Ok(())
+}
+
+/// The entry `a` is gone, and `b` is untracked. The worktree isn't walked, so nothing is called.
+const UNWALKED: Row<'static> = Row {
+    entries: &[A],
+    nodes: &[FILE_B],
+    walk: Passes(&[B], None),
+    tracker: TrackerKind::Answers(&[]),
+    dirwalk: false,
+    lines: "0 Removed a\n",
+    called: Some((false, false, false)),
+    ..PLAIN
+};
+
+const WALKED: Row<'static> = Row {
+    dirwalk: true,
+    lines: "0 Removed a\n- Added Untracked b\n",
+    end: "1 nodes",
+    called: Some((true, false, false)),
+    ..UNWALKED
+};
+
+static PARTS: [Row; 4] = [
+    UNWALKED,
+    WALKED,
+    Row {
+        rewrites: RENAMES,
+        end: "; 0 renames, 0 copies",
+        called: Some((false, false, true)),
+        ..UNWALKED
+    },
+    Row {
+        rewrites: RENAMES,
+        end: "1 nodes; 0 renames, 0 copies",
+        called: Some((true, true, true)),
+        ..WALKED
+    },
+];
+
+#[test]
+fn no_walk_id_or_tracker_is_called_if_it_is_not_wanted(rt: HostRuntime) -> Result<(), Fail> {
+    for (at, row) in PARTS.iter().enumerate() {
+        assert!(rt; is_right(&rt, row)?, "row {at}");
     }
     Ok(())
 }

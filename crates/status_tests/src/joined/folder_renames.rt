@@ -1,19 +1,11 @@
 //! The joined call over a folder of the disk.
 
-use crate::joined::entries::{RowEntry, index};
 use crate::joined::record_lines::lines_of;
-use crate::support::folders::{FolderNode, fill, own_folder};
-use status_base::worktree::DiskWorktree;
+use crate::support::prelude::*;
 use status_callers::joined::statuses::{JoinedRequest, joined};
 use status_rewrites::IdentityTracker;
 use status_walk::DiskWalk;
 use std::fs;
-use std::path::Path;
-use std::process::Abort;
-use std::rt::Files;
-use std::sync::Wait;
-use std::test::Fail;
-use std::thread::Threads;
 
 /// An empty file, and a directory with a file and a link.
 const NODES: [(&str, FolderNode<'static>); 4] = [
@@ -34,7 +26,7 @@ where
     R::Dir: Send,
 {
     let alloc = rt.alloc();
-    let index = index(alloc, &[("a", RowEntry::Foo)])?;
+    let index = foos(alloc, &["a"])?;
     let worktree = DiskWorktree::new(rt, Path::new(root))?;
     let walk = DiskWalk::new(rt, Path::new(root))?;
     let request = JoinedRequest::rewritten(walk, IdentityTracker::new(alloc));
@@ -49,7 +41,7 @@ where
 fn a_folder_has_untracked_files_and_renames(rt: HostRuntime) -> Result<(), Fail> {
     let folder = own_folder(&rt, "a_folder_has_untracked_files")?;
     fill(&rt, folder.as_str(), &NODES)?;
-    let lines = "- added \"c\"\n- renamed \"a\" \"d/b\"\n- added \"d/l\"\n";
+    let lines = "- Added Untracked c\n- Renamed a d/b\n- Added Untracked d/l\n";
     assert_reported(&rt, folder.as_str(), lines)?;
     fs::remove_dir_all(&rt, folder.as_str())?;
     Ok(())

@@ -1,78 +1,14 @@
-//! The worktree, walk, tracker and submodules of a row. They note which of them are called.
+//! The walk, tracker and submodules of a row. They note which of them are called.
 
 ghost use Rattle.std.specs.Prelude.{⊤, None};
 
-use bstr::BStr;
-use status_base::worktree::{
-    Fault, MemoryWorktree, Pathspec, SubmoduleFault, SubmoduleStatus, Worktree,
-};
-use status_callers::joined::broken::{Broken, Point};
+use crate::support::prelude::*;
+use status_base::worktree::{Pathspec, SubmoduleFault, SubmoduleStatus};
 use status_callers::joined::trackers::{Answers, PlannedPair};
 use status_callers::joined::walks::{Found, Passes};
-use status_callers::worktrees::Counted;
-use status_index::{Entry, EntryKind, ObjectId, State};
-use status_rewrites::{Change, ChangeKind, IdentityTracker, Pair, Rewrites, Tracker, TrackerError};
+use status_index::Entry;
+use status_rewrites::{Change, IdentityTracker, Pair, Rewrites, Tracker, TrackerError};
 use status_walk::{Delegate, Outcome, UntrackedWalk, Walk, WalkError};
-use std::alloc::Global;
-use std::sync::atomic::{AtomicBool, AtomicUsize, Ordering};
-
-/// Which parts of a status are called.
-#[derive(Clone, Copy, PartialEq, Eq)]
-pub struct Asked {
-    pub walk: bool,
-    /// `lstat` or `open` of `b`, to compute its id.
-    pub id: bool,
-    pub tracker: bool,
-}
-
-/// Notes of the calls of a status.
-#[derive(Drop)]
-pub struct Calls {
-    walk: AtomicBool,
-    looks: AtomicUsize,
-    opens: AtomicUsize,
-    tracker: AtomicBool,
-}
-
-impl Calls {
-    /// Notes of no call.
-    pub fn new() -> Calls {
-        Calls {
-            walk: AtomicBool::new(false),
-            looks: AtomicUsize::new(0),
-            opens: AtomicUsize::new(0),
-            tracker: AtomicBool::new(false),
-        }
-    }
-
-    /// Which parts were called.
-    pub fn asked(&self) -> Asked {
-        let looks = self.looks.load(Ordering::SeqCst);
-        let opens = self.opens.load(Ordering::SeqCst);
-        Asked {
-            walk: self.walk.load(Ordering::SeqCst),
-            id: looks > 0 || opens > 0,
-            tracker: self.tracker.load(Ordering::SeqCst),
-        }
-    }
-}
-
-/// The worktree of a row.
-pub type RowWorktree<'a> = Counted<'a, Broken<'a>>;
-
-/// Returns a worktree with these faults.
-pub fn row_worktree<'a>(
-    worktree: MemoryWorktree,
-    faults: &'a [(Point, &'a str, Fault)],
-    calls: &'a Calls,
-) -> RowWorktree<'a> {
-    Counted {
-        worktree: Broken { worktree, faults },
-        path: "b",
-        looks: &calls.looks,
-        opens: &calls.opens,
-    }
-}
 
 /// How a worktree is walked.
 #[derive(Clone, Copy)]
@@ -90,7 +26,7 @@ pub struct RowWalk<'a> {
     pub kind: WalkKind<'a>,
     /// The worktree that is walked, without the faults.
     pub nodes: &'a MemoryWorktree,
-    pub calls: &'a Calls,
+    pub called: &'a AtomicBool,
 }
 
 impl<'a, W: Worktree> Walk<W> for RowWalk<'a> {
@@ -103,7 +39,7 @@ impl<'a, W: Worktree> Walk<W> for RowWalk<'a> {
         pathspec: &P,
         delegate: &mut D,
     ) -> Result<Outcome, WalkError> {
-        self.calls.walk.store(true, Ordering::SeqCst);
+        self.called.store(true, Ordering::SeqCst);
         let alloc = self.alloc;
         match self.kind {
             WalkKind::Untracked => {
@@ -125,9 +61,6 @@ impl<'a, W: Worktree> Walk<W> for RowWalk<'a> {
     }
 }
 
-/// A change as a tracker sees it, without its path, and with its id if that counts.
-pub type Seen = (ChangeKind, EntryKind, Option<ObjectId>);
-
 /// How renames and copies are found.
 #[derive(Clone, Copy)]
 pub enum TrackerKind<'a> {
@@ -135,8 +68,8 @@ pub enum TrackerKind<'a> {
     Identity,
     /// It returns these pairs.
     Answers(&'a [PlannedPair]),
-    /// It returns no pairs if these are the changes. Otherwise it refuses.
-    Sees(&'a [Seen]),
+    /// It returns no pairs if the one change has the null id. Otherwise it refuses.
+    SeesNull,
     /// It refuses, with this code.
     Refuses(u32),
 }
@@ -146,24 +79,7 @@ pub enum TrackerKind<'a> {
 pub struct RowTracker<'a> {
     pub alloc: Global,
     pub kind: TrackerKind<'a>,
-    pub calls: &'a Calls,
-}
-
-// Returns whether the changes are these.
-fn are_seen<C: Change>(items: &[C], wanted: &[Seen]) -> bool {
-    if items.len() != wanted.len() {
-        return false;
-    }
-    for (item, (kind, mode, id)) in items.iter().zip(wanted) {
-        let is_id = match id {
-            Some(id) => item.id() == *id,
-            None => true,
-        };
-        if !is_id || item.kind() != *kind || item.entry_mode() != *mode {
-            return false;
-        }
-    }
-    true
+    pub called: &'a AtomicBool,
 }
 
 impl<'a> Tracker for RowTracker<'a> {
@@ -174,7 +90,7 @@ impl<'a> Tracker for RowTracker<'a> {
         items: &[C],
         rewrites: Rewrites,
     ) -> Result<Vec<Pair>, TrackerError> {
-        self.calls.tracker.store(true, Ordering::SeqCst);
+        self.called.store(true, Ordering::SeqCst);
         let alloc = self.alloc;
         match self.kind {
             TrackerKind::Identity => match IdentityTracker::new(alloc).pairs(items, rewrites) {
@@ -183,8 +99,10 @@ impl<'a> Tracker for RowTracker<'a> {
                 Err(_) => Err(TrackerError::Memory),
             },
             TrackerKind::Answers(pairs) => Answers { alloc, pairs }.pairs(items, rewrites),
-            TrackerKind::Sees(wanted) if are_seen(items, wanted) => Ok(Vec::new(alloc)),
-            TrackerKind::Sees(_) => Err(TrackerError::Refused(0)),
+            TrackerKind::SeesNull => match items {
+                [item] if item.id().is_null() => Ok(Vec::new(alloc)),
+                _ => Err(TrackerError::Refused(0)),
+            },
             TrackerKind::Refuses(code) => Err(TrackerError::Refused(code)),
         }
     }

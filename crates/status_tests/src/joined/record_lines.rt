@@ -1,13 +1,13 @@
-//! Records as lines of text.
+//! Reports as lines of text.
 
-use status_index::ObjectId;
-use status_joined::index_as_worktree_with_renames::{Entry, Summary};
-use status_walk::Status;
-use std::alloc::{AllocError, Global};
+use crate::support::prelude::*;
+use status_call::index_as_worktree::{Change, EntryStatus};
+use status_joined::index_as_worktree_with_renames::{Entry, Error, Outcome};
+use std::fmt::Debug;
 
-/// Returns a line for each record, in order: its index position or `-`, a word, and its path. A rename or a copy has
-/// both paths.
-pub fn lines_of<U>(
+/// Returns a line for each record, in order: its index position or `-`, its summary or the change of a submodule, the status
+/// of an untracked file, and its path. A rename or a copy has both paths.
+pub fn lines_of<U: Debug>(
     alloc: Global,
     records: &[Entry<'_, ObjectId, U>],
 ) -> Result<String, AllocError> {
@@ -18,42 +18,48 @@ pub fn lines_of<U>(
     Ok(text)
 }
 
-fn line<U>(alloc: Global, record: &Entry<'_, ObjectId, U>) -> Result<String, AllocError> {
-    let word = word(record);
-    let source = record.source_rela_path();
-    let destination = record.destination_rela_path();
+fn line<U: Debug>(alloc: Global, record: &Entry<'_, ObjectId, U>) -> Result<String, AllocError> {
+    let word = match record.summary() {
+        Some(summary) => format!(in alloc; "{summary:?}")?,
+        None => String::from_str(alloc, "none")?,
+    };
+    let (source, destination) = (record.source_rela_path(), record.destination_rela_path());
     match record {
+        Entry::Modification {
+            entry_index,
+            status: EntryStatus::Change(Change::SubmoduleModification(change)),
+            ..
+        } => format!(in alloc; "{entry_index} {change:?} {source}\n"),
         Entry::Modification { entry_index, .. } => {
-            format!(in alloc; "{entry_index} {word} \"{source}\"\n")
+            format!(in alloc; "{entry_index} {word} {source}\n")
         }
-        Entry::DirectoryContents { .. } => format!(in alloc; "- {word} \"{source}\"\n"),
-        Entry::Rewrite { .. } => format!(in alloc; "- {word} \"{source}\" \"{destination}\"\n"),
+        Entry::DirectoryContents { entry, .. } => {
+            format!(in alloc; "- {word} {:?} {source}\n", entry.status)
+        }
+        Entry::Rewrite { .. } => format!(in alloc; "- {word} {source} {destination}\n"),
     }
 }
 
-fn word<U>(record: &Entry<'_, ObjectId, U>) -> &'static str {
-    match record.summary() {
-        Some(Summary::Removed) => "removed",
-        Some(Summary::Added) => "added",
-        Some(Summary::Modified) => "modified",
-        Some(Summary::TypeChange) => "type",
-        Some(Summary::Renamed) => "renamed",
-        Some(Summary::Copied) => "copied",
-        Some(Summary::IntentToAdd) => "intent",
-        Some(Summary::Conflict) => "conflict",
-        None => word_without_summary(record),
+/// Returns the line of a call's result: how many entries were processed, if the call was interrupted, how many nodes the
+/// walk passed, if there was one, and how many renames and copies there are, if they were searched for; or the error.
+pub fn end_of(alloc: Global, answer: &Result<Outcome, Error>) -> Result<String, AllocError> {
+    let outcome = match answer {
+        Ok(outcome) => outcome,
+        Err(error) => return format!(in alloc; "{error:?}"),
+    };
+    let mut text = String::new(alloc);
+    let tracked = &outcome.tracked_file_modification;
+    if tracked.interrupted {
+        let (processed, lstats) = (tracked.entries_processed, tracked.symlink_metadata_calls);
+        text.push_str(&format!(in alloc; "cut after {processed}, {lstats}; ")?)?;
     }
-}
-
-fn word_without_summary<U>(record: &Entry<'_, ObjectId, U>) -> &'static str {
-    match record {
-        Entry::Modification { .. } => "update",
-        Entry::DirectoryContents { entry, .. } => match entry.status {
-            Status::Untracked => "untracked",
-            Status::Ignored => "ignored",
-            Status::Tracked => "tracked",
-            Status::Pruned => "pruned",
-        },
-        Entry::Rewrite { .. } => "rewritten",
+    if let Some(walk) = &outcome.dirwalk {
+        let end = if walk.cancelled { ", cancelled" } else { "" };
+        text.push_str(&format!(in alloc; "{} nodes{end}", walk.emitted)?)?;
     }
+    if let Some(pairs) = &outcome.rewrites {
+        let (renames, copies) = (pairs.renames, pairs.copies);
+        text.push_str(&format!(in alloc; "; {renames} renames, {copies} copies")?)?;
+    }
+    Ok(text)
 }

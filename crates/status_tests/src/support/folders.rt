@@ -1,25 +1,21 @@
 //! Folders of the disk that tests make.
 
-use crate::support::stats::STAGED;
+use crate::support::inputs::STAGED;
 use std::fs::{File, OpenFile, Permissions};
 use std::os::unix::fs::{PermissionsExt, symlink};
-use std::rt::{Env, Files};
+use std::rt::Files;
 use std::time::{Duration, UNIX_EPOCH};
 use std::{env, fs, io, process};
 
-/// Makes a new folder of temporary files, named by a test and a process. One that an earlier process with this id left is
-/// removed.
-fn new_folder<R: Env + Files + AllocGlobal>(rt: &R, test: &str, id: u32) -> io::Result<String> {
+/// Makes a new folder of temporary files, named by a test and this process. One that an earlier process with this id left
+/// is removed.
+pub fn own_folder(rt: &HostRuntime, test: &str) -> io::Result<String> {
     let parent = env::temp_dir(rt)?;
-    let folder = format!(in rt.alloc(); "{}/gix_status_{test}_{id}", parent.as_path().as_str())?;
+    let (path, id) = (parent.as_path(), process::id(rt.process()));
+    let folder = format!(in rt.alloc(); "{}/gix_status_{test}_{id}", path.as_str())?;
     let _ = fs::remove_dir_all(rt, folder.as_str());
     fs::create_dir(rt, folder.as_str())?;
     Ok(folder)
-}
-
-/// Makes such a folder for this process.
-pub fn own_folder(rt: &HostRuntime, test: &str) -> io::Result<String> {
-    new_folder(rt, test, process::id(rt.process()))
 }
 
 /// Returns the path of a name in a folder.

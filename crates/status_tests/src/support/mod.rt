@@ -1,12 +1,12 @@
-//! What tests of several layers use: contents with their ids, stats and times, nodes, folders of the disk, faults.
+//! What tests of several layers use: indexes and worktrees, contents with their ids, stats and times, folders of the
+//! disk.
 //!
-//! Begin at `contents` and `stats`.
+//! Begin at `inputs`.
 
+pub mod calls;
 pub mod contents;
-pub mod faults;
 pub mod folders;
-pub mod nodes;
+pub mod inputs;
 pub mod pieces;
-pub mod stats;
-pub mod texts;
-pub mod turns;
+pub mod prelude;
+pub mod side_effects;
