@@ -41,10 +41,10 @@ class Dirty(Case):
         for name in names:
             os.utime(self.path(name), (second, second), follow_symlinks=False)
 
-    def run_in(self, command, folder=None, **settings):
-        """Runs a command in a folder, by default the top, with these settings added to its environment."""
-        environment = {**os.environ, **SETTINGS, **settings}
-        return subprocess.run(command, cwd=folder or self.top, env=environment, capture_output=True, timeout=60)
+    def run_in(self, command, folder=None, timeout=60, **settings):
+        """Runs a command in a folder, by default the top, with these settings added to its environment, or removed if None."""
+        environment = {name: value for name, value in {**os.environ, **SETTINGS, **settings}.items() if value is not None}
+        return subprocess.run(command, cwd=folder or self.top, env=environment, capture_output=True, timeout=timeout)
 
     def ran(self, *words, folder=None, **settings):
         return self.run_in([GIT_DIRTY, *words], folder, **settings)
