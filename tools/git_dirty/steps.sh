@@ -56,13 +56,12 @@ modules() {
 
 # Stages files whose blobs have LF, and which have CRLF in the worktree, without their stats.
 lines() {
-  git rm -qrf --cached .
+  git rm -qrf .
   for name in a b d/a d/e/a "$@"; do
     mkdir -p -- "$(dirname -- "$name")"
     entry 100644 "$name" '1\n2\n'
     printf '1\r\n2\r\n' >"$name"
   done
-  rm -f d/b
 }
 
 # Writes attribute files by the letters of rows: user, top, d, d/e, info. A bar is between two lines.
@@ -92,3 +91,13 @@ ends() {
 # What the program printed to its output or to standard error has to be this text, or to match this pattern.
 prints() { printf "$1" | cmp - "$room/out"; }
 says() { grep -zqP "$1" "$room/err"; }
+
+# Changes the index file as git's commands don't: see steps.py.
+index() { python3 "$(dirname "${BASH_SOURCE[0]}")/steps.py" "$@"; }
+
+# Prints the version that the recipe of docs/GIT_DIRTY.md finds. Its other words are in $room/err.
+version() {
+  recipe=$(sed -n '/^is_dirty() (/,/^```$/p' "$(dirname "${BASH_SOURCE[0]}")/../../docs/GIT_DIRTY.md" | sed '$d')
+  mkdir -p "$room/bin" && ln -sf "$dirty" "$room/bin/git-dirty"
+  PATH=$room/bin:$PATH sh -c "$recipe"$'\nprintf %s "$version"' 2>"$room/err"
+}
