@@ -82,7 +82,7 @@ class Refresh(Dirty):
     def refresh(self, *words, **settings):
         return self.run_in([GIT_DIRTY, "--refresh", *words], **settings)
 
-    def assert_refreshes_as_git(self, lines="", as_long=True):
+    def assert_refreshes_as_git(self, lines=""):
         """Asserts that the program prints these lines, and leaves of the index what git leaves. It is as long as before, except
         where git cut the names of version 4 otherwise."""
         old, nanos, shown = self.read(), self.nanos(), self.shown()
@@ -92,7 +92,7 @@ class Refresh(Dirty):
         self.assert_ends(self.refresh(), lines.encode())
         self.assertEqual((self.entries(), self.git("diff-files")), (wanted, raw))
         self.assertEqual(self.shown(), shown)
-        new = self.read()
+        new, as_long = self.read(), old[7] < 4 or b"IEOT" not in old
         self.assertEqual((new[:8], len(new) == len(old), os.path.exists(self.place() + ".lock")), (old[:8], as_long, False))
         self.assertEqual(self.run_in(["git", "fsck", "--no-dangling"]).returncode, 0)
         self.assert_ends(self.ran(), lines.encode())

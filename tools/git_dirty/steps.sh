@@ -27,6 +27,17 @@ settle() {
   git update-index -q --refresh || true
 }
 
+# Gives files other times than those in the index.
+touched() { at "$((then + 7))" "$@"; }
+
+# Stages files and gives them old stats. With core.trustctime git would see each change.
+staged() {
+  git config core.trustctime false
+  git add -- a d/b "$@"
+  settle
+  touched a d/b "$@"
+}
+
 # Stages a blob with this content, as printf has it: entry MODE PATH CONTENT.
 entry() { git update-index --add --cacheinfo "$1,$(printf "$3" | git hash-object -w --stdin --no-filters),$2"; }
 

@@ -15,23 +15,7 @@ from support.repositories import THEN
 
 
 class Entries(Refresh):
-    """What a refresh changes in the index file."""
-
-    def fill(self):
-        """Adds entries of all kinds, and changes some of their files."""
-        for name in "cejrstuvwx":
-            self.write(name, "foo")
-        os.symlink("foo", self.path("l"))
-        self.git("add", ".")
-        self.commit()
-        self.settle()
-        self.git("update-index", "--assume-unchanged", "u")
-        self.write("w", "bars")
-        self.touch("u", "l", "s")
-        os.remove(self.path("v"))
-        os.chmod(self.path("x"), 0o755)
-        os.remove(self.path("t"))
-        os.symlink("foo", self.path("t"))
+    """What a refresh changes in the index file. Rows of refresh_rows.txt have more of it."""
 
     def make_racy(self):
         """Changes `r`, and touches nothing else that is racy, such as `c`, so that only the index's time shows it."""
@@ -39,96 +23,6 @@ class Entries(Refresh):
         self.write("r", "bar")
         self.set_time(THEN, "r")
         os.utime(self.place(), (THEN, THEN))
-
-    def test_each_version_and_kind_of_ids(self):
-        for kind in ("sha1", "sha256"):
-            for version in (2, 3, 4):
-                with self.subTest(kind=kind, version=version):
-                    self.make(f"{kind}-{version}", kind)
-                    self.write("a", "foo")
-                    self.write("d/b", "foo")
-                    self.fill()
-                    self.git("update-index", "--index-version", str(max(version, 2)))
-                    if version != 2:
-                        self.git("update-index", "--skip-worktree", "j")
-                        self.touch("j")
-                    self.make_racy()
-                    self.assertEqual(self.read()[7], version)
-                    old, new = self.assert_refreshes_as_git(" M r\n T t\n D v\n M w\n M x\n")
-                    self.assertNotEqual(old, new)
-                    end = len(self.git("hash-object", "a").strip()) // 2
-                    self.assertEqual(new[new.index(b"TREE") : -end], old[old.index(b"TREE") : -end])
-                    self.assertRegex(self.entries(), r"\tr\n(?:  \w.*\n)*?.*size: 0\b")
-
-    def test_extensions_are_kept(self):
-        self.fill()
-        self.git("update-index", "--untracked-cache")
-        self.git("config", "index.threads", "2")
-        self.make_racy()
-        old, new = self.assert_refreshes_as_git(" M r\n T t\n D v\n M w\n M x\n")
-        for name in (b"TREE", b"UNTR"):
-            self.assertEqual(new[new.index(name) : -20], old[old.index(name) : -20])
-
-    def test_offsets_of_entries(self):
-        """Git writes them for several threads. In version 4 the names of the new file are shorter, so the offsets are wrong. Git
-        sees that, and reads the entries without them."""
-        names = ["a", "d/b", *(f"long name {number}" for number in range(8))]
-        for version in (2, 3, 4):
-            for words in (["index.threads=4"], ["index.recordEndOfIndexEntries=true", "index.threads=1"]):
-                with self.subTest(version=version, words=words):
-                    self.make(f"{version} {words[0]}")
-                    self.add(*names)
-                    self.settle()
-                    self.git("update-index", *(["--skip-worktree", "a"] if version == 3 else []))
-                    settings = [word for setting in words for word in ("-c", setting)]
-                    self.git(*settings, "update-index", "--index-version", str(max(version, 2)), "--force-write-index")
-                    has_offsets, old = "index.threads=4" in words, self.read()
-                    self.assertEqual((old[7], b"EOIE" in old, b"IEOT" in old), (version, True, has_offsets))
-                    self.touch(*names)
-                    self.git("config", "index.threads", "4")
-                    old, new = self.assert_refreshes_as_git(as_long=version < 4 or not has_offsets)
-                    self.assertEqual(new[new.index(b"EOIE") : -20], old[old.index(b"EOIE") : -20])
-
-    def test_conflicts(self):
-        found = self.blob()
-        rows = "".join(f"100644 {found} {stage}\t{name}\n" for name, stages in (("p", "123"), ("q", "13")) for stage in stages)
-        self.git("update-index", "--index-info", stdin=rows.encode())
-        self.write("p", "foo")
-        self.assert_refreshes_as_git("UU p\nDU q\n")
-
-    def test_flags_and_entries_to_add(self):
-        for name in ("i", "k"):
-            self.write(name, "foo")
-        self.git("add", "-N", "i")
-        self.git("add", "k")
-        self.git("update-index", "--skip-worktree", "k")
-        self.touch("k")
-        self.assert_refreshes_as_git(" A i\n")
-
-    def test_submodules(self):
-        self.make_module("m")
-        self.git("add", "m")
-        self.touch("m")
-        self.assert_refreshes_as_git()
-        self.commit(folder="m")
-        self.touch("a")
-        self.set_time(THEN, "a")
-        self.assert_refreshes_as_git(" M m\n")
-
-    def test_numbers_of_a_stat(self):
-        """Times before 1970 and after 2106 are stored as 32 bits, and those that count as late are racy."""
-        self.git("config", "core.trustctime", "false")
-        for second in (-5, 0, 1, 2**31 - 1, 2**31, 2**32 - 1, 2**32 + 5):
-            with self.subTest(second):
-                nanos = second * 10**9 + 999_999_999
-                os.utime(self.path("a"), ns=(nanos, nanos))
-                self.assert_refreshes_as_git()
-                self.assertTrue(self.is_stored("a"))
-                self.write("a", "bar")
-                os.utime(self.path("a"), ns=(nanos, nanos))
-                # It is only seen if the time counts as late.
-                self.assert_as_git("" if second % 2**32 < THEN else " M a\n")
-                self.write("a", "foo")
 
     def test_a_racy_entry_that_is_unchanged_is_settled(self):
         self.make("racy")

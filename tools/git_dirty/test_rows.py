@@ -69,7 +69,7 @@ class Reported(RowCase):
     def test_a_step_that_fails_is_reported(self):
         for steps in ("false", "false | true", "ends 1", "ends 0; prints x", "ends 0; says x", "echo $nothing"):
             self.assertFalse(self.is_right(f"== row\n$ {steps}\n? ->\n"), steps)
-        self.assertTrue(self.is_right("== row\n$ ends 0; prints ''; says '^$'\n? ->\n"))
+        self.assertTrue(self.is_right("== row\n$ ends 0; prints ''; [ ! -s \"$room/err\" ]\n? ->\n"))
 
     def test_a_program_that_ends_otherwise_is_reported(self):
         place = self.put_user_file("program", "")
