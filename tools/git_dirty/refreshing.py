@@ -215,6 +215,14 @@ class Careful(Refresh):
             entries.append(replace(entry, stat=(*stat[:MODE], entry.stat[MODE], *stat[MODE + 1 :])))
         self.put(parts.with_entries(entries).file())
 
+    def assert_time(self, is_new, *words):
+        """Asserts that a refresh writes the index, with a new time or with the old one."""
+        old, nanos, before = self.read(), self.nanos(), time.time_ns()
+        self.assertIn(self.refresh(*words).returncode, (0, 1))
+        self.assertNotEqual(self.read(), old)
+        # The clock of files is a few milliseconds late.
+        self.assertTrue(before - 50_000_000 <= self.nanos() <= time.time_ns() if is_new else self.nanos() == nanos)
+
     def assert_misled(self, *names, **settings):
         """Asserts that git shows other changes if the stats of these files are stored, and leaves the index."""
         old, nanos, shown = self.read(), self.nanos(), self.shown(**settings)

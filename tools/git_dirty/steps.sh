@@ -90,6 +90,9 @@ rules() {
 # Writes the repository's configuration: lines of the section core, as printf has them.
 config() { printf "[core]\n\trepositoryformatversion = 0\n$1" >.git/config; }
 
+# Git's status, which writes no index.
+status() { git --no-optional-locks status --porcelain -uno; }
+
 socket() { python3 -c 'import socket, sys; socket.socket(socket.AF_UNIX).bind(sys.argv[1])' "$1"; }
 
 # Runs the program, whose exit status has to be this one. Its output is in $room/out and $room/err.
@@ -102,6 +105,16 @@ ends() {
 # What the program printed to its output or to standard error has to be this text, or to match this pattern.
 prints() { printf "$1" | cmp - "$room/out"; }
 says() { grep -zqP "$1" "$room/err"; }
+
+# Files that have to differ.
+differ() { if cmp -s "$1" "$2"; then echo "equal: $1 and $2" && exit 1; fi; }
+
+# Runs the program as `ends` does. It has to leave the index file, and no lock.
+unwritten() {
+  before=$(stat -c '%i %y %z %a' .git/index && cksum <.git/index)
+  ends "$@"
+  [ "$(stat -c '%i %y %z %a' .git/index && cksum <.git/index)" = "$before" ] && [ ! -e .git/index.lock ]
+}
 
 # Changes the index file as git's commands don't: see steps.py.
 index() { python3 "$(dirname "${BASH_SOURCE[0]}")/steps.py" "$@"; }

@@ -14,74 +14,6 @@ from support.programs import GIT_DIRTY
 from support.repositories import THEN
 
 
-class Entries(Refresh):
-    """What a refresh changes in the index file. Rows of refresh_rows.txt have more of it."""
-
-    def make_racy(self):
-        """Changes `r`, and touches nothing else that is racy, such as `c`, so that only the index's time shows it."""
-        self.git("config", "core.trustctime", "false")
-        self.write("r", "bar")
-        self.set_time(THEN, "r")
-        os.utime(self.place(), (THEN, THEN))
-
-    def test_a_racy_entry_that_is_unchanged_is_settled(self):
-        self.make("racy")
-        self.add("a")
-        nanos = os.stat(self.path("a")).st_mtime_ns
-        os.utime(self.place(), ns=(nanos, nanos))
-        self.wait()
-        self.assertEqual(self.counts(), (1, 1, 1, 1))
-        self.assert_refreshes_as_git()
-        self.assertEqual(self.counts(), (1, 0, 0, 0))
-
-    def test_only_the_entries_of_paths_are_refreshed(self):
-        old, nanos = self.read(), self.nanos()
-        for path, words in (("a", ["a"]), ("d/b", ["d"]), ("d/b", ["d/b", "d"])):
-            self.put(old, nanos=nanos)
-            self.git("add", "--refresh", path)
-            wanted = self.entries()
-            self.put(old, nanos=nanos)
-            self.assert_ends(self.refresh(*words), b"")
-            self.assertEqual(self.entries(), wanted)
-        self.put(old, nanos=nanos)
-        stat = self.stat()
-        self.assert_fails(self.refresh("nothing"), "no tracked file matches 'nothing'")
-        self.assertEqual(self.stat(), stat)
-
-    def test_a_racy_change_outside_of_paths_stays_visible(self):
-        for words in (["a"], ["a", "d"], ["-q", "a"]):
-            with self.subTest(words):
-                self.make("-".join(words) + "-racy")
-                self.add("a", "d/b", "r")
-                self.settle()
-                self.touch("a", "d/b")
-                self.make_racy()
-                self.assertEqual(self.refresh(*words).returncode, 0)
-                self.assertLess(self.counts(*words[-1:])[1], 2)
-                self.assert_as_git(" M r\n")
-                self.assertIn(b"AM r\n", self.git("status", "--porcelain"))
-
-    def test_quiet(self):
-        self.assertEqual(self.counts()[1], 2)
-        self.assert_quiet(self.refresh("-q"), 0)
-        self.assertEqual(self.counts(), (2, 0, 0, 0))
-        # All entries are compared, since the racy ones have to be.
-        names = [f"b/{number:03}" for number in range(200)]
-        self.add(*names, "r")
-        self.settle()
-        self.write("a", "bars")
-        self.make_racy()
-        self.touch("b/199")
-        self.assert_quiet(self.refresh("-q", "--threads", "1"), 1)
-        self.assert_as_git(" M a\n M r\n")
-        self.assertEqual(self.counts()[2:], (0, 0))
-
-    def test_the_counts_are_printed_too(self):
-        ran = self.refresh("--stats")
-        self.assertEqual((ran.returncode, ran.stdout), (0, b""))
-        self.assertRegex(ran.stderr, rb"\Agit dirty: 2 entries, .* 2 files read .* 2 with an old stat\n\Z")
-
-
 class Settled(Refresh):
     """After a refresh no file is read."""
 
@@ -161,27 +93,6 @@ class Settled(Refresh):
         self.assertEqual(self.opened(*self.STATUS), sorted(names + attributes))
         self.assertEqual(self.opened(*self.DIRTY, "--refresh"), sorted(names + attributes))
         self.assertEqual((self.opened(*self.STATUS), self.opened(*self.DIRTY)), ([], attributes))
-
-    def test_nothing_is_written_if_nothing_needs_it(self):
-        self.refresh()
-        self.write("a", "bars")
-        stat = self.stat()
-        for words in ([], ["-q"], ["a"], ["--stats"]):
-            self.assertEqual(self.refresh(*words).returncode, 1)
-            self.assertEqual(self.stat(), stat)
-        # Then it doesn't matter that the lock can't be taken.
-        self.write(".git/index.lock", "x")
-        self.assert_ends(self.refresh(), b" M a\n")
-        os.remove(self.path(".git/index.lock"))
-        os.chmod(self.path(".git"), 0o555)
-        self.addCleanup(os.chmod, self.path(".git"), 0o755)
-        self.assert_ends(self.refresh(), b" M a\n")
-        self.assertEqual(self.stat(), stat)
-
-    def test_a_repository_without_an_index(self):
-        os.remove(self.place())
-        self.assert_ends(self.refresh(), b"")
-        self.assertFalse(os.path.exists(self.place()))
 
     def test_an_edit_during_the_refresh_is_seen_afterwards(self):
         """The file's time doesn't show it, and is before the index is written, but not before the refresh began."""

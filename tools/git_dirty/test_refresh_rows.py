@@ -29,7 +29,7 @@ class RefreshRows(RowCase, Careful):
         head, result = re.fullmatch(r"(.*?)(?: ->(?: (.*))?)?", self.filled(text, value)).groups()
         head, _, names = head.partition(" with ")
         settings = dict(word.split("=", 1) for word in shlex.split(names.replace("'", "\\'")))
-        kind, lines = re.match("as git|shown|misled|left until git refreshes|left|stored", head)[0], lines_of(result or "").decode()
+        kind, lines = re.match("as git|shown|misled|left until git refreshes|left|stored|time new|time kept", head)[0], lines_of(result or "").decode()
         words = head[len(kind) :].strip(", ")
         if kind == "as git":
             self.assert_refreshes_as_git(lines)
@@ -39,6 +39,8 @@ class RefreshRows(RowCase, Careful):
             self.assert_misled(words, **settings)
         elif kind == "left":
             self.assert_left(words, lines, **settings)
+        elif kind.startswith("time"):
+            self.assert_time(kind == "time new", *words.split())
         elif kind == "stored":
             names, _, others = words.partition("but ")
             self.assertEqual([self.is_stored(it) for it in names.split() + others.split()],

@@ -81,7 +81,7 @@ class ReplacedFiles(Watched):
             place, gone = os.path.normpath(self.path(name)), None
             for kind in reversed(self.KINDS):
                 if kind in ("unreadable", "gone") and not os.path.exists(place) or (name, kind) == ("d/b", "a named pipe"):
-                    continue  # A pipe in place of a tracked file is a row of test_differences.py.
+                    continue  # A pipe in place of a tracked file is a row of rows.txt.
                 with self.subTest(name=name, kind=kind), self.replaced(place, kind):
                     is_waiting = kind == "a named pipe" and name not in self.WITHOUT_WAIT
                     gits = None if is_waiting else self.answer()

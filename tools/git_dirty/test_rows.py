@@ -64,7 +64,7 @@ class Reported(RowCase):
     def test_a_wrong_failure_is_reported(self):
         for result in (self.FAILS, *self.NO_FAILS):
             with self.subTest(result):
-                self.assertEqual(self.is_right(f"== row\n+ .git/config = [\n? -> {result}\n"), result == self.FAILS)
+                self.assertEqual(self.is_right(f"== row\n+ .git/config = [a\\n\n? -> {result}\n"), result == self.FAILS)
 
     def test_a_step_that_fails_is_reported(self):
         for steps in ("false", "false | true", "ends 1", "ends 0; prints x", "ends 0; says x", "echo $nothing"):
