@@ -49,10 +49,6 @@ class Dirty(Case):
         """Asserts that the program printed these lines and nothing else, with their exit status."""
         self.assertEqual((ran.returncode, ran.stdout, ran.stderr), (int(lines != b""), lines, b""))
 
-    def assert_quiet(self, ran, status):
-        """Asserts that the program printed nothing, and its exit status."""
-        self.assertEqual((ran.returncode, ran.stdout, ran.stderr), (status, b"", b""))
-
     def assert_as_git(self, lines, *words, **settings):
         """Asserts that git and the program print these lines."""
         self.assertEqual(self.git_lines(*words, **settings).decode(), lines)

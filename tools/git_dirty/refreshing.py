@@ -241,18 +241,6 @@ class Careful(Refresh):
         self.assertIn(path.encode(), self.changed())
         self.assertEqual(self.run_in(["git", "fsck", "--no-dangling"]).returncode, 0)
 
-    def assert_not_hidden(self, path, lines):
-        """Asserts that git lists these files, would be misled by a careless refresh, and isn't by that of the program."""
-        self.assertEqual(self.git_lines(), lines)
-        self.assert_misled(path)
-        self.assert_seen(path)
-
-    def assert_refused(self, path, lines, why, printed=""):
-        """Asserts that git lists these files, would be misled by a careless refresh, and that the program refuses to make one."""
-        self.assertEqual(self.git_lines(), lines)
-        self.assert_misled(path)
-        self.assert_left(why, printed)
-
     def changed(self):
         """Returns the paths of files that are changed, or that have another stat than in the index."""
         return self.git("diff-files", "--name-only", "-z").split(b"\0")[:-1]

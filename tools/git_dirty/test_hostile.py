@@ -16,13 +16,12 @@ from dataclasses import replace
 from pathlib import Path
 
 from git_dirty.case import CRLF, LF, Dirty
-from stress.compare_dirty import NOTES, NOTHING
+from stress.compare_dirty import NOTES
 from support.programs import GIT_DIRTY, Ended
 from support.repositories import SETTINGS, STATUS, STATUS_OF_HEADS, as_dirty, read, write
 
 # What a run may take, and the size of a file that is too large to be read whole.
 SECONDS, MEMORY, LARGE = 5, 200 << 20, 2 << 30
-UNREAD = rb"\Agit dirty: note: [.]gitmodules can't be read[^\n]*\n\Z"
 
 
 def peak_of(process):
@@ -139,40 +138,18 @@ class Outside(Watched):
 
 
 class Modules(Watched):
-    """Other nodes in place of `.gitmodules`, by which the submodule `m`, which differs, would be ignored."""
-
-    def setUp(self):
-        super().setUp()
+    def test_other_nodes_are_not_opened_if_there_is_no_submodule(self):
+        """With a submodule they are rows of rows.txt."""
         self.write(".gitmodules", '[submodule "m"]\n\tpath = m\n\tignore = all\n')
         self.write("a", "bars")
-
-    def test_it_is_not_read_if_it_is_no_plain_file(self):
-        """Git follows a link there, fails for zeros, and waits for a pipe's writer."""
-        self.make_module("m")
-        self.git("add", "m")
-        self.commit(folder="m")
-        self.assertEqual((as_dirty(self.run_in(STATUS).stdout), self.ran().stdout), (b" M a\n", b" M a\n"))
-        for kind in self.KINDS:
-            with self.subTest(kind), self.replaced(self.path(".gitmodules"), kind):
-                if kind in ("a folder", "unreadable", "gone"):
-                    self.assertEqual(as_dirty(self.run_in(STATUS).stdout), b" M a\n M m\n")
-                self.assert_noted(b" M a\n M m\n", UNREAD if kind != "gone" else NOTHING)
-
-    def test_it_is_not_opened_if_there_is_no_submodule(self):
         for kind in self.KINDS:
             with self.subTest(kind), self.replaced(self.path(".gitmodules"), kind):
                 self.assertEqual(as_dirty(self.run_in(STATUS).stdout), b" M a\n")
-                opened = self.assert_noted(b" M a\n", NOTHING)
-                self.assertEqual([place for place in opened if "modules" in place], [])
-
-    def assert_noted(self, lines, notes):
-        """Asserts that the program prints these lines and notes, and nothing with -q. Returns the files that it opens."""
-        (ended, opened), (quiet, others) = self.watched(), self.watched("-q")
-        self.assertEqual((ended.status, ended.out), (1, lines), ended.text())
-        self.assertRegex(ended.fault, notes)
-        self.assertEqual((quiet.status, quiet.out, quiet.fault), (1, b"", b""))
-        self.assert_opens_inside(opened | others)
-        return opened | others
+                (ended, opened), (quiet, others) = self.watched(), self.watched("-q")
+                self.assertEqual((ended.status, ended.out, ended.fault), (1, b" M a\n", b""), ended.text())
+                self.assertEqual((quiet.status, quiet.out, quiet.fault), (1, b"", b""))
+                self.assert_opens_inside(opened | others)
+                self.assertEqual([place for place in opened | others if "modules" in place], [])
 
 
 # What git may take, so that it ends where it would read zeros without an end.

@@ -5,8 +5,6 @@
 Other tests of line ends are rows of rows.txt.
 """
 
-import os
-
 from git_dirty.case import CRLF, LF, Dirty
 from support.index_bytes import SIZE, with_stat
 from support.repositories import STATUS, as_dirty

@@ -11,7 +11,6 @@ from pathlib import Path
 from git_dirty.case import CRLF
 from git_dirty.refreshing import Refresh
 from support.programs import GIT_DIRTY
-from support.repositories import THEN
 
 
 class Settled(Refresh):

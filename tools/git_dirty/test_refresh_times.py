@@ -53,13 +53,6 @@ class Times(Careful):
                 self.assert_fails(self.refresh(*words), EXISTS.format(self.place() + ".lock"), b" M c\n")
                 self.assertEqual((self.read(), self.stat()), (old, stat))
 
-    def test_an_index_of_the_future(self):
-        """The time is that of the lock, also if the old one is later."""
-        later = time.time_ns() + 3600 * 10**9
-        os.utime(self.place(), ns=(later, later))
-        self.assert_time(True)
-        self.assertEqual(self.counts()[1:], (0, 0, 0))
-
     def test_an_edit_beside_an_index_of_the_future(self):
         """The time is that of the lock then too if not all entries were compared. So the edit, which leaves size and second, is
         racy. With the old time it isn't."""
@@ -103,13 +96,6 @@ class Times(Careful):
                         self.assertEqual(b"AM a\n" in self.shown()[0], is_seen)
                     self.write("a", "foo")
                     self.touch("a")
-
-    def test_a_whole_refresh_of_an_index_of_the_first_second(self):
-        for nanos in (0, 999_999_999):
-            self.touch("a", later=nanos % 5)
-            os.utime(self.place(), ns=(nanos, nanos))
-            self.assert_time(True)
-            self.assertEqual(self.counts()[1:], (0, 0, 0))
 
     def test_a_racy_file_that_became_executable(self):
         """Its size becomes 0, so the change is seen without the other one. Git leaves the entry, and misses the change."""

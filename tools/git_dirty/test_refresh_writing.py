@@ -4,8 +4,6 @@
 """
 
 import os
-import re
-import shutil
 import subprocess
 import threading
 import time

@@ -44,9 +44,18 @@ class Reported(RowCase):
         """Returns whether a row of this text passes in a repository of its own."""
         self.make(tempfile.mkdtemp(dir=self.room))
         self.add("a", "d/b")
-        result = unittest.TestResult()
-        inner = Inner(self.top, rows_of(text)[0], self.PROGRAM)
-        inner.run(result)
+        result, row, top, program = unittest.TestResult(), rows_of(text)[0], self.top, self.PROGRAM
+
+        class Inner(RowCase):
+            PROGRAM = program
+
+            def setUp(self):
+                self.top, self.room = top, os.path.dirname(top)
+
+            def runTest(self):
+                self.run_row(row)
+
+        Inner().run(result)
         self.assertEqual(result.errors, [])
         return result.wasSuccessful()
 
@@ -88,20 +97,6 @@ class Reported(RowCase):
                 rows_of(text)
         names = [row.name for row in rows_of("# text\n== a\nfor b: c ¦ ∅\n\n$ {b}\n  {b}\n? ->\n=! d\n? ->\n")]
         self.assertEqual(names, ["a [c]", "a [∅]", "d"])
-
-
-class Inner(RowCase):
-    """One row over a repository that is there."""
-
-    def __init__(self, top, row, program):
-        super().__init__()
-        self.top, self.room, self.row, self.PROGRAM = top, os.path.dirname(top), row, program
-
-    def setUp(self):
-        pass
-
-    def runTest(self):
-        self.run_row(self.row)
 
 
 class Table(unittest.TestCase):
