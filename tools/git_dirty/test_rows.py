@@ -5,9 +5,9 @@
 
 import os
 import re
-import tempfile
 import unittest
 
+from git_dirty.case import Dirty
 from git_dirty.rows import FILE, RowCase, rows_of
 from support.programs import GIT_DIRTY, TOP
 from support.repositories import write
@@ -23,7 +23,7 @@ for one in ROWS:
     setattr(Rows, f"test_rows.txt: {one.name}", lambda self, row=one: self.run_row(row))
 
 
-class Reported(RowCase):
+class Reported(Dirty):
     """Rows that are wrong, and programs that end otherwise than a row states, are reported."""
 
     STEPS = "== row\n$ printf bars >a; rm d/b; printf foo >'é'; git add -- 'é'; rm 'é'\n"
@@ -40,28 +40,12 @@ class Reported(RowCase):
     NO_FAILS = ["", "fails: bad config line 2", "git fails: line 1; ours fails: line 2", "git fails: line 2; ours fails: line 1"]
     NO_FAILS += ["git fails; ours", "git; ours fails: line 1", "M a; fails: line 1"]
 
-    def is_right(self, text):
-        """Returns whether a row of this text passes in a repository of its own."""
-        self.make(tempfile.mkdtemp(dir=self.room))
-        self.add("a", "d/b")
-        result, row, top, program = unittest.TestResult(), rows_of(text)[0], self.top, self.PROGRAM
-
-        class Inner(RowCase):
-            PROGRAM = program
-
-            def setUp(self):
-                self.top, self.room = top, os.path.dirname(top)
-
-            def runTest(self):
-                self.run_row(row)
-
-        Inner().run(result)
+    def is_right(self, text, program=GIT_DIRTY):
+        """Returns whether a row of this text passes."""
+        [row], result = rows_of(text), unittest.TestResult()
+        type("Inner", (RowCase,), {"PROGRAM": program, "runTest": lambda it: it.run_row(row)})().run(result)
         self.assertEqual(result.errors, [])
         return result.wasSuccessful()
-
-    def make(self, name, kind="sha1"):
-        os.makedirs(os.path.join(self.room, name), exist_ok=True)
-        super().make(os.path.join(name, "top"), kind)
 
     def test_a_wrong_result_is_reported(self):
         for results, right in ((self.RIGHT, True), (self.WRONG, False)):
@@ -86,10 +70,8 @@ class Reported(RowCase):
         for spoiler in ["cat out; exit $status", *self.SPOILERS]:
             with self.subTest(spoiler):
                 write(place, f'#!/bin/sh\n"{GIT_DIRTY}" "$@" >"{place}.out"\nstatus=$?\n{spoiler.replace("out", place + ".out")}\n')
-                self.PROGRAM = place
-                right = spoiler not in self.SPOILERS
-                self.assertEqual(self.is_right(f"{self.STEPS}? -> {self.RIGHT[0]}\n"), right)
-                del self.PROGRAM
+                is_right = self.is_right(f"{self.STEPS}? -> {self.RIGHT[0]}\n", place)
+                self.assertEqual(is_right, spoiler not in self.SPOILERS)
 
     def test_a_malformed_file_is_an_error(self):
         for text in ("$ true\n", "== a\n% x\n", "== a\n$ true\n", "== a\n? ->\n== a\n? ->\n", "== a\n  more\n", "== a\nfor b: c ¦ c\n? ->\n"):
