@@ -1,9 +1,10 @@
 #!/usr/bin/env python3
 """Runs the tests of tools/, and prints how many passed, failed and were not run:
 
-    python3 tools/run_tests.py [TEST ...]
+    python3 tools/run_tests.py [-k WORDS] [TEST ...]
 
-A TEST is a module, class or test of a folder, as git_dirty.test_files; without one all are run. The environment's
+A TEST is a module, class or test of a folder, as git_dirty.test_rows; without one all are run. With -k only those are run
+whose names have these words, as those of rows do. The environment's
 STATUS_PROGRAM and GIT_DIRTY name the built programs; without them those of this checkout are run. A test that wasn't run
 counts as failed, and so does one that is expected to fail. Root may read and write any file, so as root the tests run
 without that right, by setpriv. The exit status is 0 if tests ran and none failed.
@@ -61,11 +62,13 @@ def main(words):
         command = [*ORDINARY, sys.executable, os.path.abspath(__file__), TRIED, *words]
         return subprocess.run(command, check=False).returncode
     names = [word for word in words if word != TRIED]
+    loader = unittest.defaultTestLoader
+    if names[:1] == ["-k"]:
+        loader.testNamePatterns, names = [f"*{names[1]}*"], names[2:]
     # In a job in the background, or under nohup, these signals are ignored, and processes started here would ignore them
     # too. Tests send them.
     signal.signal(signal.SIGINT, signal.default_int_handler)
     signal.signal(signal.SIGHUP, signal.SIG_DFL)
-    loader = unittest.defaultTestLoader
     tests = loader.loadTestsFromNames(names) if names else loader.discover(HERE)
     lines, failed = said(unittest.TextTestRunner(stream=sys.stderr, resultclass=Result).run(tests))
     print("\n".join(lines))

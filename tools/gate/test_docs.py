@@ -239,7 +239,7 @@ class Docs(unittest.TestCase):
 
     def test_the_code_for_newcomers_is_of_the_file_that_is_linked_before_it(self):
         page = text_of("CONTRIBUTING.md")
-        parts = re.split(r"^ *```(?:rust|antt|python|edit)\n(.*?)^ *```$", page, flags=re.M | re.S)
+        parts = re.split(r"^ *```(?:rust|antt|python|edit|row)\n(.*?)^ *```$", page, flags=re.M | re.S)
         self.assertGreater(len(parts), 12)
         for before, code in zip(parts[::2], parts[1::2]):
             with self.subTest(code=code):
@@ -289,7 +289,9 @@ class Docs(unittest.TestCase):
         functions = sum(len(re.findall(r"^ +def test_", text, re.M)) for text in texts_of("tools/*/*.py").values())
         tests = sum(text.count("#[test]") for text in texts_of("crates/*/src/**/*.rt").values())
         rows = sum(len(re.findall("^== ", text, re.M)) for text in texts_of("tools/status_program/rows/*.txt").values())
-        words = f"{tests} tests in Rattle, .* {rows} rows of text, .* {functions} test functions in Python"
+        others = texts_of("tools/*/*rows.txt").values()
+        beside = sum(len(re.findall("^=[=!] ", text, re.M)) for text in others)
+        words = f"{tests} tests in Rattle, .* {rows} rows of text, .* {beside} rows next to git, .* {functions} test functions in Python"
         self.assertRegex(" ".join(text_of("docs", "EVIDENCE.md").split()), words)
 
     def linked_definitions(self):

@@ -82,7 +82,7 @@ class Refresh(Dirty):
     def refresh(self, *words, **settings):
         return self.run_in([GIT_DIRTY, "--refresh", *words], **settings)
 
-    def assert_refreshes_as_git(self, lines="", as_long=True):
+    def assert_refreshes_as_git(self, lines=""):
         """Asserts that the program prints these lines, and leaves of the index what git leaves. It is as long as before, except
         where git cut the names of version 4 otherwise."""
         old, nanos, shown = self.read(), self.nanos(), self.shown()
@@ -92,11 +92,12 @@ class Refresh(Dirty):
         self.assert_ends(self.refresh(), lines.encode())
         self.assertEqual((self.entries(), self.git("diff-files")), (wanted, raw))
         self.assertEqual(self.shown(), shown)
-        new = self.read()
+        new, as_long = self.read(), old[7] < 4 or b"IEOT" not in old
         self.assertEqual((new[:8], len(new) == len(old), os.path.exists(self.place() + ".lock")), (old[:8], as_long, False))
+        kind = self.git("rev-parse", "--show-object-format").decode().strip()
+        self.assertEqual(parts_of(kind, new).extensions, parts_of(kind, old).extensions)
         self.assertEqual(self.run_in(["git", "fsck", "--no-dangling"]).returncode, 0)
         self.assert_ends(self.ran(), lines.encode())
-        return old, new
 
     # Commands of git that print the same before and after a refresh.
     SHOWN = [["status", "--porcelain"], ["diff", "--raw"], ["ls-files", "--stage", "-v"], ["diff", "--cached", "--raw"]]
@@ -215,6 +216,14 @@ class Careful(Refresh):
             entries.append(replace(entry, stat=(*stat[:MODE], entry.stat[MODE], *stat[MODE + 1 :])))
         self.put(parts.with_entries(entries).file())
 
+    def assert_time(self, is_new, *words):
+        """Asserts that a refresh writes the index, with a new time or with the old one."""
+        old, nanos, before = self.read(), self.nanos(), time.time_ns()
+        self.assertIn(self.refresh(*words).returncode, (0, 1))
+        self.assertNotEqual(self.read(), old)
+        # The clock of files is a few milliseconds late.
+        self.assertTrue(before - 50_000_000 <= self.nanos() <= time.time_ns() if is_new else self.nanos() == nanos)
+
     def assert_misled(self, *names, **settings):
         """Asserts that git shows other changes if the stats of these files are stored, and leaves the index."""
         old, nanos, shown = self.read(), self.nanos(), self.shown(**settings)
@@ -231,18 +240,6 @@ class Careful(Refresh):
         self.assertEqual(self.shown(**settings), shown)
         self.assertIn(path.encode(), self.changed())
         self.assertEqual(self.run_in(["git", "fsck", "--no-dangling"]).returncode, 0)
-
-    def assert_not_hidden(self, path, lines):
-        """Asserts that git lists these files, would be misled by a careless refresh, and isn't by that of the program."""
-        self.assertEqual(self.git_lines(), lines)
-        self.assert_misled(path)
-        self.assert_seen(path)
-
-    def assert_refused(self, path, lines, why, printed=""):
-        """Asserts that git lists these files, would be misled by a careless refresh, and that the program refuses to make one."""
-        self.assertEqual(self.git_lines(), lines)
-        self.assert_misled(path)
-        self.assert_left(why, printed)
 
     def changed(self):
         """Returns the paths of files that are changed, or that have another stat than in the index."""

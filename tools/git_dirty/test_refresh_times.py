@@ -1,4 +1,4 @@
-"""The time of a refreshed index hides no racy change from git:
+"""The time of a refreshed index hides no racy change from git. Rows of refresh_rows.txt say which time it is:
 
     python3 tools/run_tests.py git_dirty.test_refresh_times
 """
@@ -16,35 +16,6 @@ class Times(Careful):
 
     UNRACY = "its time is in the first second of 1970, when no entry is racy to git"
 
-    def assert_time(self, is_new, *words):
-        """Asserts that a refresh writes the index, with a new time or with the old one."""
-        old, nanos, before = self.read(), self.nanos(), time.time_ns()
-        self.assertIn(self.refresh(*words).returncode, (0, 1))
-        self.assertNotEqual(self.read(), old)
-        # The clock of files is a few milliseconds late.
-        self.assertTrue(before - 50_000_000 <= self.nanos() <= time.time_ns() if is_new else self.nanos() == nanos)
-
-    def test_the_time_is_new_if_all_entries_are_compared(self):
-        self.make_module("m")
-        self.write("i", "foo")
-        self.stage({"f": "foo\n", "g": "foo", "h": "foo", "k": "foo"})
-        self.git("add", "m")
-        self.git("add", "-N", "i")
-        name = self.git("rev-parse", ":g").decode().strip()
-        self.git("update-index", "--index-info", stdin="".join(f"100644 {name} {it}\tp\n" for it in (1, 2, 3)).encode())
-        self.commit(folder="m")
-        # A file whose content isn't compared has no attributes that matter: one that isn't read, is gone, or is a link now.
-        self.write(".git/info/attributes", "f filter=x\nh filter=x\nk filter=x\np filter=x\n")
-        self.store("f")
-        self.write("g", "bars")
-        os.remove(self.path("h"))
-        os.remove(self.path("k"))
-        os.symlink("f", self.path("k"))
-        for later, words in enumerate(([], ["-q"], ["."], ["--threads", "3"])):
-            self.touch("a", later=later)
-            os.utime(self.place(), (THEN + 10, THEN + 10))
-            self.assert_time(True, *words)
-
     def partial(self):
         """Makes repositories of which a refresh compares a part, with an index that is later than the files.
 
@@ -61,24 +32,6 @@ class Times(Careful):
             make()
             os.utime(self.place(), (THEN + 10, THEN + 10))
             yield name, ["--", "a", "c"] if name == "paths" else []
-
-    def test_the_time_is_kept_otherwise(self):
-        for name, words in self.partial():
-            with self.subTest(name):
-                self.assert_time(False, *words)
-
-    def test_the_time_is_kept_if_a_file_with_a_filter_was_read(self):
-        """Also if it is changed, since git may compare it otherwise."""
-        for change in (lambda: self.write("d/b", "bar"), lambda: os.chmod(self.path("d/b"), 0o755)):
-            for words in ("filter=x", "ident", "working-tree-encoding=UTF-16LE"):
-                with self.subTest(words):
-                    self.make(f"{words} {len(os.listdir(self.room))}")
-                    self.stage({})
-                    self.write(".git/info/attributes", f"b {words}\n")
-                    change()
-                    self.touch("d/b")
-                    self.assert_time(False)
-                    self.assertEqual((self.is_stored("a"), self.is_stored("d/b")), (True, False))
 
     def test_nothing_is_written_again_with_the_old_time(self):
         """A file that is later than the index stays racy, and has nothing to be stored. A lock doesn't matter then."""
@@ -99,24 +52,6 @@ class Times(Careful):
                 self.touch("a", later=8)
                 self.assert_fails(self.refresh(*words), EXISTS.format(self.place() + ".lock"), b" M c\n")
                 self.assertEqual((self.read(), self.stat()), (old, stat))
-
-    def test_a_path_with_the_name_of_an_extension(self):
-        """It's no extension, so the time is new, and version 4 is refreshed."""
-        for name in ("COUNTRY", "IEOT"):
-            with self.subTest(name):
-                self.make(name)
-                self.stage({name: "foo"})
-                self.git("update-index", "--index-version", "4")
-                os.utime(self.place(), (THEN + 10, THEN + 10))
-                self.assert_time(True)
-                self.assertTrue(self.is_stored("a"))
-
-    def test_an_index_of_the_future(self):
-        """The time is that of the lock, also if the old one is later."""
-        later = time.time_ns() + 3600 * 10**9
-        os.utime(self.place(), ns=(later, later))
-        self.assert_time(True)
-        self.assertEqual(self.counts()[1:], (0, 0, 0))
 
     def test_an_edit_beside_an_index_of_the_future(self):
         """The time is that of the lock then too if not all entries were compared. So the edit, which leaves size and second, is
@@ -161,13 +96,6 @@ class Times(Careful):
                         self.assertEqual(b"AM a\n" in self.shown()[0], is_seen)
                     self.write("a", "foo")
                     self.touch("a")
-
-    def test_a_whole_refresh_of_an_index_of_the_first_second(self):
-        for nanos in (0, 999_999_999):
-            self.touch("a", later=nanos % 5)
-            os.utime(self.place(), ns=(nanos, nanos))
-            self.assert_time(True)
-            self.assertEqual(self.counts()[1:], (0, 0, 0))
 
     def test_a_racy_file_that_became_executable(self):
         """Its size becomes 0, so the change is seen without the other one. Git leaves the entry, and misses the change."""

@@ -5,13 +5,14 @@
 
 import json
 import os
-import shutil
 import subprocess
 import sys
+from pathlib import Path
 
+from git_dirty.rows import RowCase, rows_of
 from profile_from_git import profile_of
 from support.programs import STATUS_PROGRAM, TOP
-from support.repositories import FOO, STATUS, THEN, Case, as_dirty, put_socket, wait_for_later_second
+from support.repositories import FOO, THEN, Case, as_dirty
 
 # git compares what the program compares over a folder.
 COMPARED = "-c core.trustctime=0 -c core.checkStat=minimal -c core.fileMode=0 status --porcelain -uno --no-renames"
@@ -65,126 +66,21 @@ class Profiles(Case):
         self.assertEqual(lines, as_dirty(self.git(*COMPARED.split())).decode())
 
 
-class Unseen(Case):
-    """The rows of "What isn't seen there" in docs/FORMATS.md, in their order."""
+class Unseen(RowCase):
+    """The rows of unseen_rows.txt, each of which is a test of its own."""
 
     PROGRAM = STATUS_PROGRAM
-    # Attributes, a content, and the blob that git makes of it.
-    ROWS = [("text", "1\r\n", "1\n"), ("eol=crlf", "1\r\n", "1\n"), ("filter=x", "foo\n", "faa\n")]
-    ROWS += [("ident", "$Id: x $\n", "$Id$\n"), ("working-tree-encoding=UTF-16LE", "f\0o\0\n\0", "fo\n")]
 
     def setUp(self):
         super().setUp()
-        self.git("config", "filter.x.clean", "sed s/o/a/g")
-        self.stage("a", "foo")
+        self.git("config", "core.autocrlf", "false")
+        self.settle()
 
-    def put(self, name, text, second=THEN):
-        self.write(name, text)
-        os.utime(self.path(name), (second, second))
+    def check_ours(self, wanted, *_):
+        lines, fault = status_of(self.top)
+        self.assertEqual((lines, fault != ""), (wanted.lines.decode(), wanted.fails is not None))
+        self.assertRegex(fault, wanted.fails or r"\A\Z")
 
-    def stage(self, name, text):
-        """Stages a file that is older than the index, whatever is staged."""
-        self.put(name, text)
-        self.git("update-index", "--force-remove", name)
-        self.git("add", name)
 
-    def assert_differs(self, gits, ours, fault="", words=("--no-renames",), error=False):
-        """Asserts the lines of git, whether it also prints an error, and the lines and the fault of the program."""
-        command = [*STATUS[:-1], *words]
-        ran = subprocess.run(command, cwd=self.top, capture_output=True, timeout=60)
-        self.assertEqual((as_dirty(ran.stdout).decode(), ran.stderr != b""), (gits, error))
-        self.assertEqual(status_of(self.top), (ours, fault))
-
-    def test_an_edit_with_the_time_put_back(self):
-        self.put("other", "bar")
-        os.replace(self.path("other"), self.path("a"))
-        self.assert_differs(" M a\n", "")
-        self.stage("a", "foo")
-        wait_for_later_second()
-        self.put("a", "bar")
-        self.assert_differs(" M a\n", "")
-
-    def test_executability(self):
-        os.chmod(self.path("a"), 0o755)
-        self.assert_differs(" M a\n", "")
-
-    def test_bytes_that_git_converts_to_the_blob_s(self):
-        for words, text, blob in [("", "1\r\n", "1\n"), *self.ROWS]:
-            with self.subTest(words):
-                self.git("config", "core.autocrlf", "false" if words else "true")
-                self.write(".git/info/attributes", f"a {words}\n" if words else "")
-                self.stage("a", text)
-                self.assertEqual(self.git("cat-file", "blob", ":a").decode(), blob)
-                self.assert_differs("", "")
-                self.put("a", text, THEN + 1)
-                self.assert_differs("", " M a\n")
-
-    def test_the_blob_s_bytes_that_git_converts(self):
-        for words, text, _ in self.ROWS:
-            with self.subTest(words):
-                self.write(".git/info/attributes", "")
-                self.stage("a", text)
-                self.write(".git/info/attributes", f"a {words}\n")
-                self.assert_differs("", "")
-                self.put("a", text, THEN + 1)
-                self.assert_differs(" M a\n", "")
-
-    def test_submodules(self):
-        self.make_module("m")
-        self.git("add", "m")
-        self.write("m/b", "foo")
-        self.git("-C", "m", "add", "b")
-        self.assert_differs(" M m\n", "")
-        self.commit(folder="m")
-        self.assert_differs(" M m\n", "")
-        shutil.rmtree(self.path("m"))
-        self.assert_differs(" D m\n", " D m\n")
-
-    def test_a_repository_in_place_of_a_file(self):
-        os.symlink("a", self.path("l"))
-        self.write("n", "foo")
-        self.git("add", "l")
-        self.git("add", "-N", "n")
-        for name in "aln":
-            os.remove(self.path(name))
-            self.git("init", "-q", name)
-        self.assert_differs(" D a\n D l\n D n\n", " D a\n D l\n D n\n")
-        for name in "aln":
-            self.make_module(name)
-        self.assert_differs(" T a\n T l\n A n\n", " D a\n D l\n D n\n")
-
-    def test_targets_and_times(self):
-        for second in (-1, 1 << 32):
-            self.put("a", "bar", second)
-            self.assert_differs(" M a\n", "", "status failed: time\n")
-        self.stage("a", "foo")
-        os.symlink("x", self.path("l"))
-        self.git("add", "l")
-        os.remove(self.path("l"))
-        os.symlink(b"\xff", self.path("l"))
-        self.assert_differs(" M l\n", "", "status failed: other 0\n")
-
-    def test_a_moved_file(self):
-        os.rename(self.path("a"), self.path("b"))
-        self.git("add", "-N", "b")
-        self.assert_differs(" R a -> b\n", " D a\n A b\n", words=())
-
-    def test_pipes_and_sockets(self):
-        for make in (os.mkfifo, put_socket):
-            os.remove(self.path("a"))
-            make(self.path("a"))
-            self.assert_differs(" M a\n", " T a\n")
-
-    def test_a_path_below_a_link_to_itself(self):
-        self.stage("d/b", "foo")
-        shutil.rmtree(self.path("d"))
-        os.symlink("d", self.path("d"))
-        self.assert_differs("", " D d/b\n", error=True)
-
-    def test_a_link_in_place_of_a_submodule(self):
-        self.make_module("m")
-        self.git("add", "m")
-        shutil.move(self.path("m"), self.path("n"))
-        os.symlink("n", self.path("m"))
-        self.assert_differs("", " T m\n", error=True)
-        self.assert_differs(" T m\n", " T m\n", words=["--ignore-submodules=dirty"])
+for one in rows_of(Path(__file__).with_name("unseen_rows.txt").read_text(encoding="utf-8")):
+    setattr(Unseen, f"test_unseen_rows.txt: {one.name}", lambda self, row=one: self.run_row(row))

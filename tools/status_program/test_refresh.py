@@ -6,33 +6,19 @@
 import errno
 import json
 import os
-import socket
 import stat
 import subprocess
 import tempfile
 import unittest
+from functools import partial
 from pathlib import Path
 
-from support.programs import STATUS_PROGRAM, TOP, compile_library, limit_files
-from support.repositories import FOO, write
+from support.programs import STATUS_PROGRAM, compile_library, limit_files
+from support.repositories import FOO, put_socket, write
 from support.small_profiles import MALFORMED, MODIFIED, RENAMES, entry, node, put_out, wrong_files
 
-ROW_1 = TOP / "crates" / "status_program" / "data" / "row1.json"
-# row1.json after a refresh with the time 10 0.
-ROW_1_LEFT = (
-    '{"hash":"sha1","index":[{"ctime":[5,0],"dev":0,"flags":[],"gid":0,'
-    '"id":"19102815663d23f8b75a47e7a01965dcdc96468c","ino":0,"mode":"100644","mtime":[5,0],"path":"a","size":3,'
-    '"stage":0,"uid":0},{"ctime":[5,0],"dev":0,"flags":[],"gid":0,"id":"ba0e162e1c47469e3fe4b393a8bf8c569f302116",'
-    '"ino":0,"mode":"100644","mtime":[5,0],"path":"b","size":3,"stage":0,"uid":0}],'
-    '"options":{"chunk_size":1,"comparer":"hash","thread_limit":2},"timestamp":[10,0],'
-    '"worktree":[{"mtime":[7,0],"path":"a","text":"bars"},{"mtime":[5,0],"path":"b","text":"bar"}]}\n'
-)
-TOUCHED = {
-    "timestamp": [9, 0],
-    "options": {"counts": True},
-    "index": [entry("a", "foo"), entry("b", "foo")],
-    "worktree": [node("a", "foo", mtime=[7, 1]), node("b", "bars")],
-}
+TOUCHED = {"timestamp": [9, 0], "options": {"counts": True}, "index": [entry("a", "foo"), entry("b", "foo")]}
+TOUCHED["worktree"] = [node("a", "foo", mtime=[7, 1]), node("b", "bars")]
 
 
 @unittest.skipUnless(STATUS_PROGRAM, "no built program")
@@ -41,6 +27,7 @@ class Refreshed(unittest.TestCase):
         room = tempfile.TemporaryDirectory()
         self.addCleanup(room.cleanup)
         self.room, self.file, self.out = (os.path.join(room.name, name) for name in ("", "profile.json", "out.json"))
+        self.write(MODIFIED)
 
     def write(self, profile):
         write(self.file, json.dumps(profile))
@@ -59,11 +46,6 @@ class Refreshed(unittest.TestCase):
     def left(self):
         return sorted(os.listdir(self.room))
 
-    def test_the_first_row_is_left_byte_for_byte(self):
-        self.assertEqual(self.refresh(ROW_1), (0, '0 modified -c- "a"\n', ""))
-        self.assertEqual(self.content(self.out), ROW_1_LEFT)
-        self.assertEqual(self.left(), ["out.json"])
-
     def test_a_touched_file_is_read_once(self):
         self.write(TOUCHED)
         lines = '0 update "a"\n1 modified -c- "b"\ntotal: to process 2, processed 2, skipped 0, lstat 2, to update 1, '
@@ -74,7 +56,6 @@ class Refreshed(unittest.TestCase):
         self.assertEqual((first["mtime"], first["size"], first["id"]), ([7, 1], 3, FOO))
 
     def test_the_profile_itself_can_be_written(self):
-        self.write(MODIFIED)
         self.assertEqual(self.refresh(out=self.file, secs="4294967295", nsecs="999999999")[0], 0)
         again = json.loads(self.content(self.file))
         self.assertEqual((again["timestamp"], again["worktree"]), ([4294967295, 999999999], MODIFIED["worktree"]))
@@ -97,11 +78,8 @@ class Refreshed(unittest.TestCase):
 
     def test_a_status_that_fails_leaves_the_file(self):
         failing = {"timestamp": [9, 0], "index": [entry("a", "foo"), entry("a//b", "foo")], "worktree": []}
-        for profile, lines, said in [
-            (failing, '0 removed "a"\n', "status failed: not normal\n"),
-            (MALFORMED, "", "bad profile: index\n"),
-            (RENAMES, "", "bad profile: options\n"),
-        ]:
+        rows = [(failing, '0 removed "a"\n', "status failed: not normal\n"), (MALFORMED, "", "bad profile: index\n")]
+        for profile, lines, said in [*rows, (RENAMES, "", "bad profile: options\n")]:
             self.write(profile)
             write(self.out, "old")
             self.assertEqual(self.refresh(), (1, lines, said))
@@ -113,14 +91,8 @@ class Refreshed(unittest.TestCase):
         self.assertEqual(self.refresh(out=out), (1, '0 modified -c- "a"\n', f"cannot write {out}\n"))
         self.assertEqual(self.left(), before)
 
-    def test_a_file_that_cannot_be_written_is_named(self):
-        self.write(MODIFIED)
-        self.assert_unwritten(os.path.join(self.room, "gone", "out.json"))
-        self.assert_unwritten(os.path.join(self.file, "out.json"))
-
     def test_a_file_that_there_is_no_room_for_is_not_written(self):
         # The system takes as many bytes of the new file as there is room for, and refuses the next write.
-        self.write(MODIFIED)
         out, line = f"{self.file}.out", '0 modified -c- "a"\n'
         self.assertEqual(self.refresh(), (0, line, ""))
         new = self.content(self.out)
@@ -133,36 +105,24 @@ class Refreshed(unittest.TestCase):
                     self.assertEqual(ran, (1, line, f"cannot write {out}\n") if is_full else (0, line, ""))
                     self.assertIsNone(wrong_files(self.file, ran[0], old, new))
 
-    def test_what_is_no_regular_file_is_refused(self):
-        self.write(MODIFIED)
-        name = os.path.join(self.room, "node")
-        os.mkdir(name)
-        self.assert_unwritten(name)
-        os.rmdir(name)
-        os.mkfifo(name)
-        self.assert_unwritten(name)
-        self.assertTrue(stat.S_ISFIFO(os.lstat(name).st_mode))
-        os.remove(name)
-        with socket.socket(socket.AF_UNIX) as bound:
-            bound.bind(name)
-            self.assert_unwritten(name)
-            self.assertTrue(stat.S_ISSOCK(os.lstat(name).st_mode))
-
-    def test_a_link_to_what_is_no_regular_file_is_refused(self):
-        self.write(MODIFIED)
-        os.mkdir(os.path.join(self.room, "folder"))
+    def test_a_file_that_cannot_be_written_is_named(self):
+        """In a folder that isn't there, and at what is no regular file, or a link to such a node or to nothing."""
+        self.assert_unwritten(os.path.join(self.room, "gone", "out.json"))
+        self.assert_unwritten(os.path.join(self.file, "out.json"))
         outer, inner = os.openpty()
         # The output of the program is a pipe here. No other file can be made in a folder of devices.
-        for target in ("folder", os.ttyname(inner), "/dev/stdout", "/proc/self/fd/1"):
-            os.symlink(target, self.out)
-            self.assert_unwritten(self.out)
-            self.assertEqual(os.readlink(self.out), target)
-            os.remove(self.out)
+        targets = ("gone", "out.json", ".", os.ttyname(inner), "/dev/stdout", "/proc/self/fd/1")
+        for make in (os.mkdir, os.mkfifo, put_socket, *(partial(os.symlink, target) for target in targets)):
+            with self.subTest(make):
+                make(self.out)
+                before = os.lstat(self.out)
+                self.assert_unwritten(self.out)
+                self.assertEqual(os.lstat(self.out)[:3], before[:3])
+                (os.rmdir if make is os.mkdir else os.remove)(self.out)
         os.close(outer)
         os.close(inner)
 
     def test_a_link_is_followed(self):
-        self.write(MODIFIED)
         os.mkdir(os.path.join(self.room, "folder"))
         real = os.path.join(self.room, "folder", "real.json")
         write(real, "old")
@@ -178,16 +138,7 @@ class Refreshed(unittest.TestCase):
         self.assert_unwritten(self.out)
         self.assertEqual(self.content(lock), "another's")
 
-    def test_a_link_that_leads_nowhere_is_refused(self):
-        self.write(MODIFIED)
-        os.symlink("gone", self.out)
-        self.assert_unwritten(self.out)
-        os.remove(self.out)
-        os.symlink("out.json", self.out)
-        self.assert_unwritten(self.out)
-
     def test_permissions_are_kept(self):
-        self.write(MODIFIED)
         before = os.umask(0o027)
         self.addCleanup(os.umask, before)
         self.assertEqual(self.refresh()[0], 0)
@@ -204,19 +155,14 @@ class Refreshed(unittest.TestCase):
         return stat.S_IMODE(os.stat(self.out).st_mode)
 
     def test_a_lock_of_another_is_respected(self):
-        self.write(MODIFIED)
         before, lock = self.content(self.file), self.file + ".lock"
         write(lock, "another's")
         self.assert_unwritten(self.file)
         self.assertEqual((self.content(self.file), self.content(lock)), (before, "another's"))
 
-    def test_other_arguments_print_the_usage(self):
-        self.write(MODIFIED)
-        wrong = [("10",), ("10", "0", "0"), ("4294967296", "0"), ("10", "1000000000"), ("+10", "0"), ("10", "")]
-        for words in wrong:
-            status, out, said = self.run_program("refresh", self.file, self.out, *words)
-            self.assertEqual((status, out, said[:31]), (2, "", "usage: status_program status FI"), words)
-        self.assertEqual(self.left(), ["profile.json"])
+    def test_an_empty_argument_prints_the_usage(self):
+        status, out, said = self.refresh(nsecs="")
+        self.assertEqual((status, out, said[:31], self.left()), (2, "", "usage: status_program status FI", ["profile.json"]))
 
 
 @unittest.skipUnless(STATUS_PROGRAM, "no built program")

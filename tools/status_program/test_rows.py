@@ -22,16 +22,10 @@ NOTHING = b'{"timestamp":[9,0],"options":{"counts":true},"index":[],"worktree":[
 TOTALS = b"total: to process 0, processed 0, skipped 0, lstat 0, to update 0, racy 0, read 0, bytes 0\n"
 
 # Nested lists within a profile, by their number of levels. A profile is itself the first level, and its index the second.
-LEVELS = [
-    ("", 127, "", "bad profile: hash"),
-    ("", 128, "", "not JSON"),
-    ('{"more":', 126, "}", "bad profile: timestamp"),
-    ('{"more":', 127, "}", "not JSON"),
-    ('{"index":[', 125, "]}", "bad profile: timestamp"),
-    ('{"index":[', 126, "]}", "not JSON"),
-    ('{"worktree":', 126, "}", "bad profile: timestamp"),
-    ('{"worktree":', 127, "}", "not JSON"),
-]
+LEVELS = [("", 127, "", "bad profile: hash"), ("", 128, "", "not JSON")]
+LEVELS += [(front, most, back, "bad profile: timestamp") for front, most, back in
+           (('{"more":', 126, "}"), ('{"index":[', 125, "]}"), ('{"worktree":', 126, "}"))]
+LEVELS += [(front, most + 1, back, "not JSON") for front, most, back, _ in LEVELS[2:]]
 # Profiles that are no UTF-8, or no JSON by a byte order mark, a tab in a text, or more than 127 levels.
 TEXTS = [(b'{"hash":"\xff"}', "not JSON"), ("\ufeff{}", "not JSON")]
 TEXTS += [('{"timestamp":[9,0],"index":[{"path":"a","id":"%s","more":"\t"}],"worktree":[]}' % FOO, "not JSON")]
@@ -338,20 +332,8 @@ class Inputs(unittest.TestCase):
 class Workers(unittest.TestCase):
     # A limit of workers, a size of pieces, a number of entries, and how many threads are started. One of the workers is the
     # program's own thread.
-    STARTS = [
-        (None, 1, 8, 3),
-        (0, 1, 8, 3),
-        (1, 1, 8, 0),
-        (2, 1, 8, 1),
-        (3, 1, 8, 2),
-        (4294967295, 1, 100, 63),
-        (None, 4, 8, 1),
-        (None, 7, 8, 1),
-        (None, 8, 8, 0),
-        (None, 4294967295, 8, 0),
-        (None, 0, 500, 0),
-        (None, 0, 501, 1),
-    ]
+    STARTS = [(None, 1, 8, 3), (0, 1, 8, 3), (1, 1, 8, 0), (2, 1, 8, 1), (3, 1, 8, 2), (4294967295, 1, 100, 63), (None, 4, 8, 1)]
+    STARTS += [(None, 7, 8, 1), (None, 8, 8, 0), (None, 4294967295, 8, 0), (None, 0, 500, 0), (None, 0, 501, 1)]
 
     def test_threads_are_started_as_the_options_say(self):
         with tempfile.TemporaryDirectory() as folder, Starved(STATUS_PROGRAM, folder) as starved:

@@ -18,16 +18,8 @@ from support.small_profiles import ROWS, put_out, wrong_files
 ONE_PIECE = ("malformed",)
 # The rows that the gate sweeps, and numbers of calls than which more are refused, so that a profile that shrinks is noticed.
 # These are about nine tenths of the calls that there were.
-FEWEST = {
-    "modified": 35,
-    "conflict": 55,
-    "renames": 80,
-    "listed": 75,
-    "folder": 47,
-    "refreshed": 105,
-    "refreshed_over": 105,
-    "reopened": 692,
-}
+FEWEST = {"modified": 35, "conflict": 55, "renames": 80, "listed": 75, "folder": 47, "refreshed": 105, "refreshed_over": 105}
+FEWEST |= {"reopened": 692}
 
 # Takes memory twice, starts a thread, which takes memory too, and then prints the line of the first row.
 STAND_IN = r"""

@@ -14,10 +14,9 @@ import time
 import unittest
 from functools import partial
 
-from stress import draw_histories, draw_profiles, fuzz_profiles, mutate_index
+from stress import draw_histories, mutate_index
 from stress.draw_attributes import AttributeDrawing
 from stress.draw_repositories import Drawing, drawn
-from stress.mutations import bases
 from support.index_bytes import MODE, MTIME, SIZE, parts_of
 from support.programs import TOP
 from support.repositories import read, write
@@ -69,12 +68,10 @@ class Seeds(unittest.TestCase):
         cases, again = [*make()], [*make()]
         with self.subTest(name):
             self.assertEqual(repr(cases), repr(again))
-            different = {repr(getattr(case, "content", case)) for case in cases}
-            self.assertGreater(len(different), len(cases) * 9 // 10)
+            self.assertGreater(len({repr(case) for case in cases}), len(cases) * 9 // 10)
 
     def test_a_seed_always_makes_the_same_case(self):
-        makers = {command: partial(fuzz_profiles.case_of, command) for command in fuzz_profiles.COMMANDS}
-        makers |= {"profiles": draw_profiles.drawn_profile, "histories": history}
+        makers = {"histories": history}
         with tempfile.TemporaryDirectory() as room:
             base = mutate_index.Base(f"{room}/base", "sha1")
             makers["index files"] = lambda seed: mutate_index.mutated(random.Random(seed), base)
@@ -83,20 +80,12 @@ class Seeds(unittest.TestCase):
             for kind in (Drawing, AttributeDrawing):
                 self.assert_same(kind.__name__, partial(repositories, kind, f"{room}/drawn"))
 
-    def test_mutations_do_not_change_the_profiles_that_are_mutated(self):
-        for command in fuzz_profiles.COMMANDS:
-            before = repr(bases(command))
-            for seed in range(100):
-                fuzz_profiles.case_of(command, seed)
-            self.assertEqual(repr(bases(command)), before)
-
 
 class Scripts(unittest.TestCase):
     """How the scripts end. The program that they run is /bin/false, whose end is always wrong."""
 
     # What each script keeps of seed 0.
     KEPT = {"compare_dirty": ["0"], "mutate_index": ["0.index"], "draw_histories": ["history-0.json"]}
-    KEPT |= {"draw_profiles": ["profile-0.json"], "fuzz_profiles": ["refresh-0.json", "replay-0.json", "status-0.json"]}
     SWEEP = ["refuse_memory", "--rows", "malformed", "--limits", "1", "--repeat", "1"]
 
     def ran(self, script, *words, out=subprocess.PIPE, **settings):

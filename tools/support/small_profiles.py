@@ -112,60 +112,28 @@ def node(path, text, **more):
     return {"path": path, "text": text, "mtime": [7, 0], **more}
 
 
-MODIFIED = {
-    "timestamp": [9, 0],
-    "options": {"chunk_size": 1},
-    "index": [entry("a", "foo", mtime=[5, 0]), entry("b", "bar", mtime=[5, 0])],
-    "worktree": [node("a", "bars"), node("b", "bar", mtime=[5, 0])],
-}
-CONFLICT = {
-    "timestamp": [9, 0],
-    "options": {"chunk_size": 2, "counts": True},
-    "index": [
-        entry("a", "foo"),
-        *(entry("f", "foo", stage=stage) for stage in (1, 2, 3)),
-        entry("g", "foo"),
-    ],
-    "worktree": [node(path, "foo", mtime=[OLD, 0]) for path in ("a", "f", "g")],
-}
+MODIFIED = {"timestamp": [9, 0], "options": {"chunk_size": 1}}
+MODIFIED["index"] = [entry("a", "foo", mtime=[5, 0]), entry("b", "bar", mtime=[5, 0])]
+MODIFIED["worktree"] = [node("a", "bars"), node("b", "bar", mtime=[5, 0])]
+CONFLICT = {"timestamp": [9, 0], "options": {"chunk_size": 2, "counts": True}}
+CONFLICT["index"] = [entry("a", "foo"), *(entry("f", "foo", stage=stage) for stage in (1, 2, 3)), entry("g", "foo")]
+CONFLICT["worktree"] = [node(path, "foo", mtime=[OLD, 0]) for path in ("a", "f", "g")]
 HISTORY = {"clock": 5, "timestamp": 5, "options": {"trust_ctime": False}}
 HISTORY["events"] = [["write", "a", "foo"], ["stage", "a"], ["write", "b", "foo"], ["stage", "b"], ["write", "a", "bar"]]
 HISTORY["events"] += [["tick", 1], ["run", "hash", 1, 2, 6], ["tick", 1], ["run", "hash", 1, 2, 7]]
 REOPENED = HISTORY | {"events": [part for event in HISTORY["events"] for part in (event, ["reopen"])]}
-RENAMES = {
-    "timestamp": [9, 0],
-    "options": {"chunk_size": 1, "untracked": True, "renames": True, "sort": True},
-    "index": [entry("a", "foo"), entry("m", "foo")],
-    "worktree": [node("b", "foo"), node("c", "foo"), node("m", "bars"), node("n", "bar"), node("o", "bar")],
-}
+RENAMES = {"timestamp": [9, 0], "options": {"chunk_size": 1, "untracked": True, "renames": True, "sort": True}}
+RENAMES["index"] = [entry("a", "foo"), entry("m", "foo")]
+RENAMES["worktree"] = [node("b", "foo"), node("c", "foo"), node("m", "bars"), node("n", "bar"), node("o", "bar")]
 # Untracked files and a link, on three levels, next to an entry and below the directory of one.
-LISTED = {
-    "timestamp": [9, 0],
-    "options": {"chunk_size": 1, "untracked": True},
-    "index": [entry("d/a", "foo"), entry("m", "foo")],
-    "worktree": [
-        node("b", "foo"),
-        node("d/a", "bars"),
-        node("d/c", "foo"),
-        node("d/e/f", "foo"),
-        node("l", "m", kind="link"),
-        node("m", "foo", mtime=[OLD, 0]),
-    ],
-}
+LISTED = {"timestamp": [9, 0], "options": {"chunk_size": 1, "untracked": True}, "index": [entry("d/a", "foo"), entry("m", "foo")]}
+LISTED["worktree"] = [node("b", "foo"), node("d/a", "bars"), node("d/c", "foo"), node("d/e/f", "foo")]
+LISTED["worktree"] += [node("l", "m", kind="link"), node("m", "foo", mtime=[OLD, 0])]
 # Names that are longer than a path that the program keeps without memory.
 LONG = "/".join(["long" * 20] * 4)
-FOLDER = {
-    "timestamp": [9, 0],
-    "options": {"trust_ctime": False, "check_stat": False, "chunk_size": 1},
-    "index": [
-        entry("d/changed", "foo"),
-        entry("gone", "foo"),
-        entry("link", "away", mode="120000"),
-        entry(LONG, "foo"),
-        entry("same", "foo"),
-    ],
-    "folder": "folder",
-}
+FOLDER = {"timestamp": [9, 0], "options": {"trust_ctime": False, "check_stat": False, "chunk_size": 1}, "folder": "folder"}
+FOLDER["index"] = [entry("d/changed", "foo"), entry("gone", "foo"), entry("link", "away", mode="120000")]
+FOLDER["index"] += [entry(LONG, "foo"), entry("same", "foo")]
 MALFORMED = {"timestamp": [9, 0], "index": [entry("a", "foo"), {"path": "b", "id": "c0ffee"}], "worktree": []}
 
 ROWS = {
