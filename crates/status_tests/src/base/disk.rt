@@ -3,7 +3,8 @@
 use crate::support::folders::within;
 use crate::support::prelude::*;
 use FolderNode::{Changed, File, Folder, Link, Mode};
-use status_base::worktree::disk::{fault_of, metadata_of};
+use status_base::worktree::StatFields;
+use status_base::worktree::disk::fault_of;
 use status_index::Time;
 use std::time::Duration;
 use std::{fs, io};
@@ -57,7 +58,7 @@ fn all_of_a_file_is_reported(rt: HostRuntime) -> Result<(), Fail> {
     ] {
         assert!(rt; lstat(&worktree, path) == Ok(file_at(stamp)), "{path}");
     }
-    assert!(rt; metadata_of(&fs::Metadata::of_file(3)) == file_at(None));
+    assert!(rt; StatFields::Portable.metadata_of(&fs::Metadata::of_file(3)) == file_at(None));
     fs::remove_dir_all(&rt, folder.as_str())?;
     Ok(())
 }
