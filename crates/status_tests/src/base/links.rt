@@ -87,6 +87,23 @@ const ALIKE_ROWS: [Row; 2] = [
     ("a/x", false, "Err(ThroughLink { prefix: \"a\" })", 2),
 ];
 
+/// Returns the result of a check for a path, as a text. If `may_be_absent`, the path may lead to nothing.
+fn answer(
+    alloc: Global,
+    check: &mut SymlinkCheck,
+    worktree: &CountsAll<'_>,
+    path: &str,
+    may_be_absent: bool,
+) -> Result<String, AllocError> {
+    let path = BStr::from(path);
+    let answer = if may_be_absent {
+        check.verified_path_allow_nonexisting(worktree, path)
+    } else {
+        check.verified_path(worktree, path)
+    };
+    format!(in alloc; "{answer:?}")
+}
+
 /// Returns whether a check has the result of a row, counts as many calls of `lstat` as were made, and keeps its root.
 fn is_row(
     alloc: Global,
@@ -95,13 +112,7 @@ fn is_row(
     row: &Row,
 ) -> Result<bool, AllocError> {
     let (path, may_be_absent, want, looks) = *row;
-    let path = BStr::from(path);
-    let answer = if may_be_absent {
-        check.verified_path_allow_nonexisting(worktree, path)
-    } else {
-        check.verified_path(worktree, path)
-    };
-    let found = format!(in alloc; "{answer:?}")?;
+    let found = answer(alloc, check, worktree, path, may_be_absent)?;
     let made = worktree.looks.load(Ordering::SeqCst) as u64;
     let is_counted = check.looks() == looks && made == looks;
     Ok(found.as_str() == want && is_counted && check.root() == BStr::from("r"))

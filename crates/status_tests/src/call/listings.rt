@@ -40,42 +40,57 @@ const NODES: [NodeRow<'static>; 6] = [
     ("l", NodeKind::Link, b"d", 1, Some(LATER)),
 ];
 
-const REMOVED: EntryStatus<ObjectId, ()> = EntryStatus::Change(Change::Removed);
+/// The status of each entry.
+#[derive(Clone, Copy, PartialEq, Eq)]
+enum Verdict {
+    Unchanged,
+    Removed,
+    /// Executability changed, and nothing else.
+    Executable,
+}
 
-/// Executability changed, and nothing else.
-const EXECUTABLE: EntryStatus<ObjectId, ()> = EntryStatus::Change(Change::Modification {
-    executable_bit_changed: true,
-    content_change: None,
-    set_entry_stat_size_zero: false,
-});
-
-/// The status of each entry, if it has one, how often `lstat` is called on entries' paths, and how many files of three
+/// The status of each entry, how often `lstat` is called on entries' paths, and how many files of three
 /// bytes are read.
-type Answer = (Option<&'static EntryStatus<ObjectId, ()>>, usize, usize);
+type Answer = (Verdict, usize, usize);
 
 /// Entries, whether they are executable files, and the results of the status with listings and without. The entries
 /// are alike: `lstat` is called on the paths of all, or of none.
 type Row = (&'static [&'static str], bool, Answer, Answer);
 
 static ROWS: [Row; 5] = [
-    (&["clean"], false, (None, 0, 0), (None, 1, 0)),
+    (
+        &["clean"],
+        false,
+        (Verdict::Unchanged, 0, 0),
+        (Verdict::Unchanged, 1, 0),
+    ),
     // A listed directory is no file.
-    (&["directory"], false, (Some(&REMOVED), 0, 0), (None, 1, 0)),
+    (
+        &["directory"],
+        false,
+        (Verdict::Removed, 0, 0),
+        (Verdict::Unchanged, 1, 0),
+    ),
     // A listed file is never executable. It is read, because its executability seems to have changed.
     (
         &["executable"],
         true,
-        (Some(&EXECUTABLE), 0, 1),
-        (None, 1, 0),
+        (Verdict::Executable, 0, 1),
+        (Verdict::Unchanged, 1, 0),
     ),
     // The directory can't be listed.
-    (&["d/x", "d/y"], false, (None, 2, 0), (None, 2, 0)),
+    (
+        &["d/x", "d/y"],
+        false,
+        (Verdict::Unchanged, 2, 0),
+        (Verdict::Unchanged, 2, 0),
+    ),
     // No path leads through a link, whatever is listed below it.
     (
         &["l/x"],
         false,
-        (Some(&REMOVED), 0, 0),
-        (Some(&REMOVED), 0, 0),
+        (Verdict::Removed, 0, 0),
+        (Verdict::Removed, 0, 0),
     ),
 ];
 
@@ -102,6 +117,21 @@ fn options_by(executable_bit: bool, fscache: bool) -> Options {
     }
 }
 
+// Returns whether an entry has this status.
+fn is_status(verdict: Verdict, status: &EntryStatus<ObjectId, ()>) -> bool {
+    match status {
+        EntryStatus::Change(Change::Removed) => verdict == Verdict::Removed,
+        EntryStatus::Change(
+            Change::Modification {
+                executable_bit_changed: true,
+                content_change: None,
+                set_entry_stat_size_zero: false,
+            },
+        ) => verdict == Verdict::Executable,
+        _ => false,
+    }
+}
+
 // Returns whether a status has the result of its row, with listings or without, and calls `lstat` and `open` on the
 // first path as often.
 fn is_right<R: AllocGlobal + Threads + Wait>(
@@ -110,7 +140,7 @@ fn is_right<R: AllocGlobal + Threads + Wait>(
     fscache: bool,
 ) -> Result<bool, Fail> {
     let (paths, executable_bit, listed, unlisted) = *row;
-    let (status, lstats, opens) = if fscache { listed } else { unlisted };
+    let (verdict, lstats, opens) = if fscache { listed } else { unlisted };
     let (Some(first), alloc) = (paths.first(), rt.alloc()) else {
         return Ok(false);
     };
@@ -132,11 +162,15 @@ fn is_right<R: AllocGlobal + Threads + Wait>(
     let options = options_by(executable_bit, fscache);
     let report = listed_status(rt, &index, &worktree, lister, options);
     for record in &report.records {
-        if status != Some(&record.status) {
+        if !is_status(verdict, &record.status) {
             return Ok(false);
         }
     }
-    let records = if status.is_none() { 0 } else { paths.len() };
+    let records = if verdict == Verdict::Unchanged {
+        0
+    } else {
+        paths.len()
+    };
     let bytes = (opens as u64).saturating_mul(3);
     let wanted = Outcome {
         symlink_metadata_calls: lstats,

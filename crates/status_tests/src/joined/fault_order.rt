@@ -30,7 +30,7 @@ const NODES: [Found<'static>; 3] = [
 ];
 
 /// Faults at the entry and at the nodes, which all are met if they are alone.
-const FAULTS: [(Point, &str, Fault); 4] = [
+static FAULTS: [(Point, &str, Fault); 4] = [
     (Point::Open, "a", Fault::Other(1)),
     (Point::Read, "x", Fault::Other(2)),
     (Point::Open, "m", Fault::Other(7)),
@@ -54,9 +54,9 @@ const BROKEN: Row<'static> = Row {
 // Returns whether the call fails so, with the last of the faults.
 fn fails_by<R: AllocGlobal + Threads + Wait>(
     rt: &R,
-    faults: &[(Point, &str, Fault)],
+    faults: &'static [(Point, &'static str, Fault)],
     sorted: bool,
-    end: &str,
+    end: &'static str,
 ) -> Result<bool, Fail> {
     let row = Row {
         faults,
