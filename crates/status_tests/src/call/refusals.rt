@@ -12,7 +12,7 @@ use status_call::index_as_worktree::inputs::{Inputs, Settings};
 use status_call::index_as_worktree::run_rounds::run_rounds;
 use status_call::index_as_worktree::workers::Workers;
 use status_callers::collectors::Full;
-use status_callers::statuses::{plain_request, report_to};
+use status_callers::statuses::{StatusReport, plain_request, report_to};
 
 /// How rounds end.
 #[derive(Clone, Copy, PartialEq)]
@@ -88,21 +88,34 @@ fn end_of(
     }
 }
 
-// Returns whether rounds end as their row says.
-fn is_right<R: AllocGlobal + Threads + Wait>(rt: &R, row: &Row) -> Result<bool, Fail> {
-    let (paths, count, too_large, is_set, end) = *row;
+// Returns the workers of a row, or None if there can't be as many.
+fn workers<'a, R>(
+    rt: &'a R,
+    alloc: Global,
+    row: &Row,
+    interrupt: Option<&'a AtomicBool>,
+) -> Option<Workers<'a, R>> {
+    let (_, count, too_large, _, _) = *row;
     if count < 1 || count > 64 {
-        return Ok(false);
+        return None;
     }
-    let alloc = rt.alloc();
-    let index = foos(alloc, paths)?;
-    let flag = AtomicBool::new(is_set);
-    let workers = Workers {
+    Some(Workers {
         rt,
         alloc,
         count,
         stack_size: too_large.then_some(usize::MAX),
-        interrupt: Some(&flag),
+        interrupt,
+    })
+}
+
+// Returns whether rounds end as their row says.
+fn is_right<R: AllocGlobal + Threads + Wait>(rt: &R, row: &Row) -> Result<bool, Fail> {
+    let (paths, _, _, is_set, end) = *row;
+    let alloc = rt.alloc();
+    let index = foos(alloc, paths)?;
+    let flag = AtomicBool::new(is_set);
+    let Some(workers) = workers(rt, alloc, row, Some(&flag)) else {
+        return Ok(false);
     };
     let mut recorder = Recorder::new(alloc);
     let answer = report_rounds(&index, &workers, &mut recorder);
@@ -117,43 +130,43 @@ fn a_refused_thread_ends_the_status_and_nothing_is_reported(rt: HostRuntime) -> 
     Ok(())
 }
 
-const ALL: [Wanted<'static>; 3] = [
-    (0, "a", Says::Changed(BAR)),
-    (1, "b", Says::Changed(BAR)),
-    (2, "c", Says::Changed(BAR)),
-];
-
-/// Returns whether a collector with memory for `room` of the three records holds these. Without memory for all of them
-/// the status fails.
-fn holds<R: AllocGlobal + Threads + Wait>(rt: &R, room: usize) -> Result<bool, Fail> {
+/// Calls the status with a collector that has memory for `room` records.
+fn status_with_room<'index, R: AllocGlobal + Threads + Wait, W: Worktree + Sync>(
+    rt: &R,
+    index: &'index State,
+    worktree: &W,
+    room: usize,
+) -> StatusReport<'index, ObjectId, ()>
+where
+    W::File: Send,
+{
     let alloc = rt.alloc();
-    let index = foos(alloc, &["a", "b", "c"])?;
+    let collector = Recorder::new(alloc);
+    let mut full = Full { collector, room };
+    let request = plain_request(alloc);
+    let answer = report_to(rt, alloc, index, worktree, &mut full, HashEq, request, None);
+    StatusReport {
+        records: full.collector.records,
+        answer,
+    }
+}
+
+#[test]
+fn a_collector_that_is_refused_memory_ends_the_status(rt: HostRuntime) -> Result<(), Fail> {
+    let changed = Says::Changed(BAR);
+    let all: [Wanted<'_>; 3] = [(0, "a", changed), (1, "b", changed), (2, "c", changed)];
     let nodes = [
         later_file("a", b"bar"),
         later_file("b", b"bar"),
         later_file("c", b"bar"),
     ];
-    let worktree = worktree(alloc, &nodes)?;
-    let mut full = Full {
-        collector: Recorder::new(alloc),
-        room,
-    };
-    let request = plain_request(alloc);
-    let answer = report_to(
-        rt, alloc, &index, &worktree, &mut full, HashEq, request, None,
-    );
-    let is_ended = match answer {
-        Ok(_) => room == 3,
-        Err(Error::Memory) => room < 3,
-        Err(_) => false,
-    };
-    let wanted = ALL.get(..room).unwrap_or(&[]);
-    Ok(is_ended && are_records(&full.collector.records, wanted))
-}
-
-#[test]
-fn a_collector_that_is_refused_memory_ends_the_status(rt: HostRuntime) -> Result<(), Fail> {
-    assert!(rt; holds(&rt, 2)?);
-    assert!(rt; holds(&rt, 3)?);
+    let index = foos(rt.alloc(), THREE)?;
+    let worktree = worktree(rt.alloc(), &nodes)?;
+    let cut = status_with_room(&rt, &index, &worktree, 2);
+    assert!(rt; are_records(&cut.records, &all[..2]));
+    assert!(rt; matches!(&cut.answer, Err(Error::Memory)));
+    let whole = status_with_room(&rt, &index, &worktree, 3);
+    assert!(rt; are_records(&whole.records, &all));
+    assert!(rt; whole.answer.is_ok());
     Ok(())
 }
