@@ -135,26 +135,20 @@ fn not_a_folder(alloc: Global, path: &str, why: Unread) -> RepositoryError {
 }
 
 fn find<R: Files + Env + AllocGlobal>(rt: &R, folder: &str) -> Result<Place, RepositoryError> {
-    if let Some(path) = variable(rt, "GIT_DIR")? {
-        return named_place(rt, folder, path.as_str());
+    let alloc = rt.alloc();
+    match variable(rt, "GIT_DIR")? {
+        Some(path) => {
+            let path = joined(alloc, folder, path.as_str())?;
+            Ok(Place {
+                git_dir: named_git_dir(rt, path)?,
+                top: Some(String::from_str(alloc, folder)?),
+            })
+        }
+        None => match variable(rt, "GIT_CEILING_DIRECTORIES")? {
+            Some(ceilings) => search(rt, folder, ceilings.as_str()),
+            None => search(rt, folder, ""),
+        },
     }
-    match variable(rt, "GIT_CEILING_DIRECTORIES")? {
-        Some(ceilings) => search(rt, folder, ceilings.as_str()),
-        None => search(rt, folder, ""),
-    }
-}
-
-// Returns the repository that the environment names. Its worktree is the working folder.
-fn named_place<R: Files + AllocGlobal>(
-    rt: &R,
-    folder: &str,
-    path: &str,
-) -> Result<Place, RepositoryError> {
-    let path = joined(rt.alloc(), folder, path)?;
-    Ok(Place {
-        git_dir: named_git_dir(rt, path)?,
-        top: Some(String::from_str(rt.alloc(), folder)?),
-    })
 }
 
 // Searches a folder and those above it, below any of the ceilings. A colon is between two ceilings.
