@@ -227,7 +227,7 @@ impl<R: Files + AllocGlobal, W: Worktree> GitAttributeFiles<'_, R, W> {
     }
 }
 
-/// What is at the path of an attribute file of the worktree.
+/// The node at the path of an attribute file of the worktree.
 #[derive(Drop)]
 enum Found {
     /// A file, with these bytes.

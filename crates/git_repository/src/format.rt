@@ -18,12 +18,9 @@ const OLD_EXTENSIONS: [&[u8]; 4] = [
 const NEW_EXTENSIONS: [&[u8]; 4] = [
     b"noop-v1",
     b"objectformat",
-    REF_STORAGE,
+    b"refstorage",
     b"relativeworktrees",
 ];
-
-// The extension that says how references are stored.
-const REF_STORAGE: &[u8] = b"refstorage";
 
 /// The format that a repository's own configuration states.
 #[derive(Clone, Copy)]
@@ -96,7 +93,7 @@ fn check_extension(
         Some(0) if is_new_extension(name) => Err(RepositoryError::NewExtension {
             name: String::from_utf8_lossy(alloc, name)?,
         }),
-        Some(1) if name == REF_STORAGE && !is_text(value, b"files") => {
+        Some(1) if name == b"refstorage".as_slice() && !is_text(value, b"files") => {
             Err(RepositoryError::BadValue {
                 name: "extensions.refstorage",
                 value: String::from_utf8_lossy(alloc, value.unwrap_or(b""))?,

@@ -145,7 +145,7 @@ fn target_of<R: Files + AllocGlobal>(
     }
 }
 
-// Returns what the packed references say of a name. None if they don't have it.
+// Returns the target of a name by the packed references. None if they don't have it.
 fn packed_target<R: Files + AllocGlobal>(
     rt: &R,
     common_dir: &str,
