@@ -144,7 +144,7 @@ class Docs(unittest.TestCase):
 
     def test_the_manual_page_has_each_extension_that_is_known(self):
         code = text_of("crates", "git_repository", "src", "format.rt")
-        known = re.findall(r"fn is_(?:old|new)_extension.*?^\}", code, re.M | re.S)
+        known = re.findall(r"^const (?:OLD|NEW)_EXTENSIONS.*?^\];", code, re.M | re.S)
         names = [name for text in known for name in re.findall(r'b"([\w-]+)"', text)]
         page = text_of("docs", "GIT_DIRTY.md")
         listed = re.search(r"these extensions are known, and another one is a failure:\s(.*?)\. In version 0", page, re.S).group(1)

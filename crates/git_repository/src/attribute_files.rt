@@ -1,11 +1,10 @@
 //! The attribute files of a repository.
 
-use crate::config::Config;
 use crate::error::RepositoryError;
-use crate::files::{configuration_folder, joined, path_of, variable};
+use crate::files::joined;
 use crate::location::Repository;
+use crate::outer_attributes::outer_files;
 use crate::regular::{ATTRIBUTES_LIMIT, Unread, read_regular};
-use crate::sources::is_set;
 use bstr::{BStr, BString, ByteSlice as _};
 use git_attributes::{AttributeFile, AttributeFiles};
 use status_base::stack::{StackError, SymlinkCheck};
@@ -50,74 +49,19 @@ impl<'a, R: Files + Env + AllocGlobal, W: Worktree> GitAttributeFiles<'a, R, W> 
         repository: &Repository,
         unread: &'a AtomicBool,
     ) -> Result<GitAttributeFiles<'a, R, W>, RepositoryError> {
-        let alloc = rt.alloc();
-        let mut outer = Vec::new(alloc);
-        if !is_set(rt, "GIT_ATTR_NOSYSTEM")? {
-            outer.push(String::from_str(alloc, "/etc/gitattributes")?)?;
-        }
-        if let Some(path) = user_file(rt, &repository.config)? {
-            // A relative path starts at the worktree's top.
-            outer.push(joined(alloc, repository.top.as_str(), path.as_str())?)?;
-        }
+        let outer = outer_files(rt, repository)?;
+        let own = joined(
+            rt.alloc(),
+            repository.common_dir.as_str(),
+            "info/attributes",
+        )?;
         Ok(GitAttributeFiles {
             worktree,
             outer,
-            own: joined(alloc, repository.common_dir.as_str(), "info/attributes")?,
+            own,
             unread,
             rt,
         })
-    }
-}
-
-/// Returns the attribute file of the user: that of `core.attributesFile`, otherwise `git/attributes` in the folder of
-/// configuration files. As in git, a value that names no file is an error even if a later one overrides it.
-fn user_file<R: Env + AllocGlobal>(
-    rt: &R,
-    config: &Config,
-) -> Result<Option<String>, RepositoryError> {
-    let alloc = rt.alloc();
-    let home = variable(rt, "HOME")?;
-    let mut set = None;
-    for found in config.variables() {
-        if found.is_named(b"core", None, b"attributesfile") {
-            set = Some(named_file(alloc, found.value(), &home)?);
-        }
-    }
-    if set.is_some() {
-        return Ok(set);
-    }
-    match configuration_folder(rt, &home)? {
-        Some(folder) => Ok(Some(joined(alloc, folder.as_str(), "git/attributes")?)),
-        None => Ok(None),
-    }
-}
-
-/// Returns the file of a path that is set, and may begin with `~` for the home folder. Those of other users aren't known, and
-/// neither is git's own folder, `%(prefix)/`.
-fn named_file(
-    alloc: Global,
-    value: Option<&[u8]>,
-    home: &Option<String>,
-) -> Result<String, RepositoryError> {
-    let Some(value) = value else {
-        return Err(bad_file(String::new(alloc)));
-    };
-    let path = path_of(alloc, value)?;
-    match (path.strip_prefix('~'), home) {
-        (None, _) if path.starts_with("%(prefix)/") => Err(bad_file(path)),
-        (None, _) => Ok(path),
-        (Some(rest), Some(home)) if rest.is_empty() || rest.starts_with('/') => {
-            Ok(format!(in alloc; "{home}{rest}")?)
-        }
-        (Some(_), _) => Err(bad_file(path)),
-    }
-}
-
-/// Returns the error of a value of `core.attributesFile` that names no file.
-fn bad_file(value: String) -> RepositoryError {
-    RepositoryError::BadValue {
-        name: "core.attributesfile",
-        value,
     }
 }
 
@@ -156,23 +100,27 @@ fn shared_folders(one: &[u8], other: &[u8]) -> usize {
     shared
 }
 
-impl<R: Files + AllocGlobal, W: Worktree> GitAttributeFiles<'_, R, W> {
-    /// Adds a file outside of the worktree, or the repository's own, if it can be read.
-    fn add_outer(&self, files: &mut Vec<AttributeFile>, path: &str) -> Result<(), AllocError> {
-        match read_regular(self.rt, path, ATTRIBUTES_LIMIT - 1) {
-            Ok(found) => {
-                files.push(AttributeFile {
-                    folder: Vec::new(self.rt.alloc()),
-                    has_macros: true,
-                    bytes: found.bytes,
-                })?;
-                Ok(())
-            }
-            Err(Unread::System(io::ErrorKind::OutOfMemory)) => Err(AllocError),
-            Err(_) => Ok(()),
+/// Adds a file outside of the worktree, or the repository's own, if it can be read.
+fn add_outer<R: Files + AllocGlobal>(
+    rt: &R,
+    files: &mut Vec<AttributeFile>,
+    path: &str,
+) -> Result<(), AllocError> {
+    match read_regular(rt, path, ATTRIBUTES_LIMIT - 1) {
+        Ok(found) => {
+            files.push(AttributeFile {
+                folder: Vec::new(rt.alloc()),
+                has_macros: true,
+                bytes: found.bytes,
+            })?;
+            Ok(())
         }
+        Err(Unread::System(io::ErrorKind::OutOfMemory)) => Err(AllocError),
+        Err(_) => Ok(()),
     }
+}
 
+impl<R: Files + AllocGlobal, W: Worktree> GitAttributeFiles<'_, R, W> {
     /// Returns the bytes of a file of the worktree. None if there is none that can be read. Links aren't opened, since they may
     /// lead to a device, and neither are files that are too large.
     fn read_inner(&self, path: BStr<'_>) -> Result<Option<Vec<u8>>, AllocError> {
@@ -198,25 +146,33 @@ impl<R: Files + AllocGlobal, W: Worktree> GitAttributeFiles<'_, R, W> {
         let mut path = Vec::from_slice(self.rt.alloc(), folder)?;
         path.extend_from_slice(NAME.as_bytes())?;
         let path = BStr::new(path.as_slice());
-        let bytes = match search.check.verified_path(self.worktree, path) {
-            Ok(_) => self.read_inner(path)?,
-            Err(StackError::Memory | StackError::Fault(Fault::Memory)) => return Err(AllocError),
-            Err(StackError::Fault(fault)) if !is_absent(fault) => None,
-            Err(_) => return Ok(false),
-        };
-        match bytes {
-            Some(bytes) => search.files.push(AttributeFile {
-                folder: Vec::from_slice(self.rt.alloc(), folder)?,
-                has_macros: folder.is_empty(),
-                bytes,
-            })?,
-            None => {
-                if !search.index.entries_at(path).is_empty() && self.may_have(folder)? {
-                    self.unread.store(true, Ordering::Relaxed);
-                }
-            }
+        match self.found_at(&mut search.check, path)? {
+            Found::File(bytes) => search.push(self.rt.alloc(), folder, bytes)?,
+            Found::NoFile => self.note_unread(search.index, folder, path)?,
+            Found::NoFolder => return Ok(false),
         }
         Ok(folder.len() < PATH_LIMIT)
+    }
+
+    /// Returns what is at the path of an attribute file of the worktree.
+    fn found_at(&self, check: &mut SymlinkCheck, path: BStr<'_>) -> Result<Found, AllocError> {
+        match check.verified_path(self.worktree, path) {
+            Ok(_) => match self.read_inner(path)? {
+                Some(bytes) => Ok(Found::File(bytes)),
+                None => Ok(Found::NoFile),
+            },
+            Err(StackError::Memory | StackError::Fault(Fault::Memory)) => Err(AllocError),
+            Err(StackError::Fault(fault)) if !is_absent(fault) => Ok(Found::NoFile),
+            Err(_) => Ok(Found::NoFolder),
+        }
+    }
+
+    /// Notes that git would read a file that is only in the index, if its folder may be in the worktree.
+    fn note_unread(&self, index: &State, folder: &[u8], path: BStr<'_>) -> Result<(), AllocError> {
+        if !index.entries_at(path).is_empty() && self.may_have(folder)? {
+            self.unread.store(true, Ordering::Relaxed);
+        }
+        Ok(())
     }
 
     /// Returns whether the worktree may have files in a folder, whose path ends with a slash.
@@ -230,6 +186,29 @@ impl<R: Files + AllocGlobal, W: Worktree> GitAttributeFiles<'_, R, W> {
             Err(Fault::NotFound | Fault::NotADirectory) => Ok(false),
             Err(_) => Ok(true),
         }
+    }
+
+    /// Adds the files of the system and of the user.
+    fn add_all_outer(&self, files: &mut Vec<AttributeFile>) -> Result<(), AllocError> {
+        for path in &self.outer {
+            add_outer(self.rt, files, path.as_str())?;
+        }
+        Ok(())
+    }
+
+    /// Adds the files of the worktree's folders that have an entry.
+    fn add_all(&self, search: &mut Inner<'_>) -> Result<(), AllocError> {
+        self.add_inner(search, b"")?;
+        let index = search.index;
+        let mut folder: &[u8] = b"";
+        for entry in index.entries() {
+            let path = entry.path_in(index.path_backing()).as_bytes();
+            if !is_directly_in(path, folder) {
+                self.add_folders(search, path, shared_folders(folder, path))?;
+                folder = folder_of(path);
+            }
+        }
+        Ok(())
     }
 
     /// Adds the files of the folders on the way to a path. Those up to `from` were added before.
@@ -248,6 +227,17 @@ impl<R: Files + AllocGlobal, W: Worktree> GitAttributeFiles<'_, R, W> {
     }
 }
 
+/// The node at the path of an attribute file of the worktree.
+#[derive(Drop)]
+enum Found {
+    /// A file, with these bytes.
+    File(Vec<u8>),
+    /// No file that can be read.
+    NoFile,
+    /// Neither a file nor a folder that may have one.
+    NoFolder,
+}
+
 /// A search of the worktree for the attribute files of an index.
 #[derive(Drop)]
 struct Inner<'i> {
@@ -256,32 +246,33 @@ struct Inner<'i> {
     files: Vec<AttributeFile>,
 }
 
+impl Inner<'_> {
+    /// Adds the file of a folder.
+    fn push(&mut self, alloc: Global, folder: &[u8], bytes: Vec<u8>) -> Result<(), AllocError> {
+        self.files.push(AttributeFile {
+            folder: Vec::from_slice(alloc, folder)?,
+            has_macros: folder.is_empty(),
+            bytes,
+        })?;
+        Ok(())
+    }
+}
+
 impl<R: Files + AllocGlobal, W: Worktree> AttributeFiles for GitAttributeFiles<'_, R, W> {
     ghost use Rattle.std.specs.Prelude.{⊤};
 
     ghost are_files = { λ _ _ _. ⊤ };
 
     fn find(&self, alloc: Global, index: &State) -> Result<Vec<AttributeFile>, AllocError> {
-        let mut files = Vec::new(alloc);
-        for path in &self.outer {
-            self.add_outer(&mut files, path.as_str())?;
-        }
         let mut search = Inner {
             index,
             check: SymlinkCheck::new(alloc, BString::new(Vec::new(alloc))),
-            files,
+            files: Vec::new(alloc),
         };
-        self.add_inner(&mut search, b"")?;
-        let mut folder: &[u8] = b"";
-        for entry in index.entries() {
-            let path = entry.path_in(index.path_backing()).as_bytes();
-            if !is_directly_in(path, folder) {
-                self.add_folders(&mut search, path, shared_folders(folder, path))?;
-                folder = folder_of(path);
-            }
-        }
-        let Inner { mut files, .. } = search;
-        self.add_outer(&mut files, self.own.as_str())?;
+        self.add_all_outer(&mut search.files)?;
+        self.add_all(&mut search)?;
+        add_outer(self.rt, &mut search.files, self.own.as_str())?;
+        let Inner { files, .. } = search;
         Ok(files)
     }
 }

@@ -171,21 +171,24 @@ impl Config {
         let Some((front, name)) = whole.rsplit_once('.') else {
             return Ok(());
         };
-        let (section, subsection) = match front.split_once('.') {
-            Some((section, subsection)) => (section, Some(subsection)),
-            None => (front, None),
-        };
-        let mut header = section.as_bytes().to_ascii_lowercase(alloc)?;
-        if let Some(subsection) = subsection {
-            header.push(b'.')?;
-            header.extend_from_slice(subsection.as_bytes())?;
-        }
+        let header = Arc::new(alloc, header_of(alloc, front)?)?;
         let name = name.as_bytes().to_ascii_lowercase(alloc)?;
         let value = match value {
             Some(value) => Some(Vec::from_slice(alloc, value)?),
             None => None,
         };
         self.begin_section();
-        self.add(&Arc::new(alloc, header)?, name, value)
+        self.add(&header, name, value)
     }
+}
+
+// Returns the header of a section, or of a section and a subsection with a dot between.
+fn header_of(alloc: Global, front: &str) -> Result<Vec<u8>, AllocError> {
+    let Some((section, subsection)) = front.split_once('.') else {
+        return front.as_bytes().to_ascii_lowercase(alloc);
+    };
+    let mut header = section.as_bytes().to_ascii_lowercase(alloc)?;
+    header.push(b'.')?;
+    header.extend_from_slice(subsection.as_bytes())?;
+    Ok(header)
 }

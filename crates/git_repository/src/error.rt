@@ -139,3 +139,15 @@ pub enum RepositoryError {
     #[error("Out of memory")]
     Memory(#[from(alloc)] AllocError),
 }
+
+impl RepositoryError {
+    /// Returns whether a file or a folder can't be read.
+    pub(crate) fn is_unreadable(&self) -> bool {
+        matches!(self, RepositoryError::Unreadable { .. })
+    }
+
+    /// Returns whether a line of a configuration file can't be read.
+    pub(crate) fn is_bad_config(&self) -> bool {
+        matches!(self, RepositoryError::BadConfig { .. })
+    }
+}

@@ -43,6 +43,14 @@ pub fn unreadable(alloc: Global, path: &str, why: Unread) -> RepositoryError {
     }
 }
 
+/// Returns the error of an environment variable that states no configuration.
+pub fn bad_environment(alloc: Global, name: &str) -> RepositoryError {
+    match String::from_str(alloc, name) {
+        Ok(name) => RepositoryError::BadEnvironment { name },
+        Err(_) => RepositoryError::Memory(AllocError),
+    }
+}
+
 /// Returns the bytes of a regular file that has at most `limit`. None if nothing is at the path.
 ///
 /// # Errors
@@ -105,9 +113,7 @@ pub fn variable<R: Env + AllocGlobal>(
     match env::var(rt, name) {
         Ok(value) => Ok(Some(value)),
         Err(VarError::NotPresent) => Ok(None),
-        Err(VarError::NotUnicode) => Err(RepositoryError::BadEnvironment {
-            name: String::from_str(rt.alloc(), name)?,
-        }),
+        Err(VarError::NotUnicode) => Err(bad_environment(rt.alloc(), name)),
         Err(VarError::OutOfMemory) => Err(RepositoryError::Memory(AllocError)),
     }
 }

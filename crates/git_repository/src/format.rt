@@ -2,9 +2,25 @@
 
 use crate::config::Config;
 use crate::error::RepositoryError;
-use crate::values::{is_text, number_of, switch};
+use crate::values::{is_text, number_of, switch_or};
 use status_index::HashKind;
 use std::alloc::Global;
+
+// The extensions that formats of any version may have.
+const OLD_EXTENSIONS: [&[u8]; 4] = [
+    b"noop",
+    b"preciousobjects",
+    b"partialclone",
+    b"worktreeconfig",
+];
+
+// The extensions that only formats of version 1 may have.
+const NEW_EXTENSIONS: [&[u8]; 4] = [
+    b"noop-v1",
+    b"objectformat",
+    b"refstorage",
+    b"relativeworktrees",
+];
 
 /// The format that a repository's own configuration states.
 #[derive(Clone, Copy)]
@@ -24,18 +40,9 @@ pub struct Format {
 /// The format isn't known, a value can't be read, or out of memory.
 pub fn read_format(alloc: Global, config: &Config) -> Result<Format, RepositoryError> {
     let version = read_version(alloc, config)?;
-    if let Some(found) = version
-        && found > 1
-    {
-        return Err(RepositoryError::UnknownVersion { found });
-    }
-    for variable in config.variables() {
-        if let Some(name) = variable.name_in(b"extensions") {
-            check_extension(alloc, name, variable.value(), version)?;
-        }
-    }
+    check_extensions(alloc, config, version)?;
     let kind = read_kind(alloc, config)?;
-    let has_own = switch(alloc, config, "extensions.worktreeconfig")?.unwrap_or(false);
+    let has_own = switch_or(alloc, config, "extensions.worktreeconfig", false)?;
     let is_stated = version.is_some();
     Ok(Format {
         kind: if is_stated { kind } else { HashKind::Sha1 },
@@ -44,19 +51,34 @@ pub fn read_format(alloc: Global, config: &Config) -> Result<Format, RepositoryE
     })
 }
 
-// Returns the version of the format. None if it isn't set.
+// Returns the version of the format, which is at most 1. None if it isn't set.
 fn read_version(alloc: Global, config: &Config) -> Result<Option<i32>, RepositoryError> {
     let Some(found) = config.get(b"core", None, b"repositoryformatversion") else {
         return Ok(None);
     };
     let value = found.value().unwrap_or(b"");
     match number_of(value) {
+        Some(found) if found > 1 => Err(RepositoryError::UnknownVersion { found }),
         Some(version) => Ok(Some(version)),
         None => Err(RepositoryError::BadNumber {
             name: "core.repositoryformatversion",
             value: String::from_utf8_lossy(alloc, value)?,
         }),
     }
+}
+
+// Checks each extension.
+fn check_extensions(
+    alloc: Global,
+    config: &Config,
+    version: Option<i32>,
+) -> Result<(), RepositoryError> {
+    for variable in config.variables() {
+        if let Some(name) = variable.name_in(b"extensions") {
+            check_extension(alloc, name, variable.value(), version)?;
+        }
+    }
+    Ok(())
 }
 
 // Checks that an extension is known, and that the version of the format has it. A format without a version may have
@@ -67,16 +89,17 @@ fn check_extension(
     value: Option<&[u8]>,
     version: Option<i32>,
 ) -> Result<(), RepositoryError> {
-    let is_old = is_old_extension(name);
-    match (version, name) {
-        (Some(1), b"refstorage") if !is_text(value, b"files") => Err(RepositoryError::BadValue {
-            name: "extensions.refstorage",
-            value: String::from_utf8_lossy(alloc, value.unwrap_or(b""))?,
-        }),
-        (Some(0), _) if !is_old && is_new_extension(name) => Err(RepositoryError::NewExtension {
+    match version {
+        Some(0) if is_new_extension(name) => Err(RepositoryError::NewExtension {
             name: String::from_utf8_lossy(alloc, name)?,
         }),
-        (Some(1), _) if !is_old && !is_new_extension(name) => {
+        Some(1) if name == b"refstorage".as_slice() && !is_text(value, b"files") => {
+            Err(RepositoryError::BadValue {
+                name: "extensions.refstorage",
+                value: String::from_utf8_lossy(alloc, value.unwrap_or(b""))?,
+            })
+        }
+        Some(1) if !is_old_extension(name) && !is_new_extension(name) => {
             Err(RepositoryError::UnknownExtension {
                 name: String::from_utf8_lossy(alloc, name)?,
             })
@@ -87,18 +110,12 @@ fn check_extension(
 
 // Returns whether formats of any version may have an extension.
 fn is_old_extension(name: &[u8]) -> bool {
-    matches!(
-        name,
-        b"noop" | b"preciousobjects" | b"partialclone" | b"worktreeconfig"
-    )
+    OLD_EXTENSIONS.contains(&name)
 }
 
 // Returns whether only formats of version 1 may have an extension.
 fn is_new_extension(name: &[u8]) -> bool {
-    matches!(
-        name,
-        b"noop-v1" | b"objectformat" | b"refstorage" | b"relativeworktrees"
-    )
+    NEW_EXTENSIONS.contains(&name)
 }
 
 // Returns the digest that makes ids.
@@ -107,12 +124,14 @@ fn read_kind(alloc: Global, config: &Config) -> Result<HashKind, RepositoryError
         return Ok(HashKind::Sha1);
     };
     let value = found.value().unwrap_or(b"");
-    match value {
-        b"sha1" => Ok(HashKind::Sha1),
-        b"sha256" => Ok(HashKind::Sha256),
-        _ => Err(RepositoryError::BadValue {
-            name: "extensions.objectformat",
-            value: String::from_utf8_lossy(alloc, value)?,
-        }),
+    if value == b"sha1".as_slice() {
+        return Ok(HashKind::Sha1);
     }
+    if value == b"sha256".as_slice() {
+        return Ok(HashKind::Sha256);
+    }
+    Err(RepositoryError::BadValue {
+        name: "extensions.objectformat",
+        value: String::from_utf8_lossy(alloc, value)?,
+    })
 }

@@ -4,8 +4,10 @@ use crate::error::RepositoryError;
 use crate::files::{canonical, is_folder, is_missing, joined, path_of, read_if_there, unreadable};
 use crate::heads::has_head;
 use crate::regular::{GIT_FILE_LIMIT, SMALL_LIMIT, Unread};
+use std::alloc::Global;
+use std::fs::{self, Metadata};
+use std::io;
 use std::rt::Files;
-use std::{fs, io};
 
 // The beginning of a file `.git`, before the path of a repository.
 const GIT_FILE_START: &[u8] = b"gitdir: ";
@@ -32,18 +34,27 @@ pub fn git_dir_in<R: Files + AllocGlobal>(
 ) -> Result<Option<String>, RepositoryError> {
     let path = joined(rt.alloc(), folder, ".git")?;
     match fs::metadata(rt, path.as_str()) {
-        Ok(found) if found.is_dir() => {
-            if is_git_dir(rt, path.as_str(), refusal)? {
-                Ok(Some(path))
-            } else {
-                Ok(None)
-            }
-        }
-        Ok(found) if found.is_file() => Ok(Some(named_git_dir(rt, path)?)),
+        Ok(found) => git_dir_at(rt, path, &found, refusal),
         Err(error) if refusal == Refusal::IsError && !is_missing(error.kind()) => {
             Err(unreadable(rt.alloc(), path.as_str(), Unread::System(error.kind())))
         }
-        _ => Ok(None),
+        Err(_) => Ok(None),
+    }
+}
+
+// Returns the folder of the repository that the node at a path is, or that the file there names.
+fn git_dir_at<R: Files + AllocGlobal>(
+    rt: &R,
+    path: String,
+    found: &Metadata,
+    refusal: Refusal,
+) -> Result<Option<String>, RepositoryError> {
+    if found.is_dir() {
+        Ok(is_git_dir(rt, path.as_str(), refusal)?.then_some(path))
+    } else if found.is_file() {
+        Ok(Some(named_git_dir(rt, path)?))
+    } else {
+        Ok(None)
     }
 }
 
@@ -55,26 +66,39 @@ pub fn named_git_dir<R: Files + AllocGlobal>(
     rt: &R,
     path: String,
 ) -> Result<String, RepositoryError> {
-    let alloc = rt.alloc();
     let git_dir = if is_folder(rt, path.as_str())? {
         path
     } else {
-        let Some(bytes) = read_if_there(rt, path.as_str(), GIT_FILE_LIMIT)? else {
-            return Err(RepositoryError::NotARepository { path });
-        };
-        let Some(named) = bytes.as_slice().strip_prefix(GIT_FILE_START) else {
-            return Err(RepositoryError::BadGitFile { path });
-        };
-        // The path starts in the folder that has the file, also if a link led to it.
-        let place = canonical(rt, path.as_str())?;
-        let folder = parent_of(place.as_str()).unwrap_or("/");
-        joined(alloc, folder, path_of(alloc, named)?.as_str())?
+        read_git_file(rt, path)?
     };
     if is_git_dir(rt, git_dir.as_str(), Refusal::IsError)? {
         canonical(rt, git_dir.as_str())
     } else {
         Err(RepositoryError::NotARepository { path: git_dir })
     }
+}
+
+// Returns the folder that the file `.git` at a path names.
+fn read_git_file<R: Files + AllocGlobal>(rt: &R, path: String) -> Result<String, RepositoryError> {
+    match read_if_there(rt, path.as_str(), GIT_FILE_LIMIT)? {
+        Some(bytes) => match bytes.as_slice().strip_prefix(GIT_FILE_START) {
+            Some(named) => beside(rt, path.as_str(), named),
+            None => Err(RepositoryError::BadGitFile { path }),
+        },
+        None => Err(RepositoryError::NotARepository { path }),
+    }
+}
+
+// Returns a path that a file names. It starts in the folder that has the file, also if a link led to it.
+fn beside<R: Files + AllocGlobal>(
+    rt: &R,
+    file: &str,
+    named: &[u8],
+) -> Result<String, RepositoryError> {
+    let place = canonical(rt, file)?;
+    let folder = parent_of(place.as_str()).unwrap_or("/");
+    let path = path_of(rt.alloc(), named)?;
+    Ok(joined(rt.alloc(), folder, path.as_str())?)
 }
 
 /// Returns whether a folder is that of a repository: `HEAD` is one that git accepts, and folders `objects` and `refs` are
@@ -87,18 +111,22 @@ pub fn is_git_dir<R: Files + AllocGlobal>(
     folder: &str,
     refusal: Refusal,
 ) -> Result<bool, RepositoryError> {
-    let alloc = rt.alloc();
     match has_head(rt, folder) {
-        Ok(true) => {}
-        Err(RepositoryError::Unreadable { .. }) if refusal == Refusal::IsMissing => {
-            return Ok(false);
-        }
-        has_none => return has_none,
+        Ok(true) => has_folders(rt, common_dir_of(rt, folder)?.as_str()),
+        Ok(false) => Ok(false),
+        Err(error) if refusal == Refusal::IsMissing && error.is_unreadable() => Ok(false),
+        Err(error) => Err(error),
     }
-    let common_dir = common_dir_of(rt, folder)?;
-    let objects = joined(alloc, common_dir.as_str(), "objects")?;
-    let refs = joined(alloc, common_dir.as_str(), "refs")?;
-    Ok(is_folder(rt, objects.as_str())? && is_folder(rt, refs.as_str())?)
+}
+
+// Returns whether the folders `objects` and `refs` are in a repository's common folder.
+fn has_folders<R: Files + AllocGlobal>(rt: &R, common_dir: &str) -> Result<bool, RepositoryError> {
+    let objects = joined(rt.alloc(), common_dir, "objects")?;
+    let refs = joined(rt.alloc(), common_dir, "refs")?;
+    if !is_folder(rt, objects.as_str())? {
+        return Ok(false);
+    }
+    is_folder(rt, refs.as_str())
 }
 
 /// Returns the folder of the repository whose linked worktree has this folder. That of any other is its own.
@@ -109,26 +137,36 @@ pub fn common_dir_of<R: Files + AllocGlobal>(
     rt: &R,
     git_dir: &str,
 ) -> Result<String, RepositoryError> {
-    let alloc = rt.alloc();
-    let place = joined(alloc, git_dir, "commondir")?;
+    let place = joined(rt.alloc(), git_dir, "commondir")?;
     match read_if_there(rt, place.as_str(), SMALL_LIMIT)? {
-        Some(bytes) if bytes.is_empty() => {
-            let why = Unread::System(io::ErrorKind::UnexpectedEof);
-            Err(unreadable(alloc, place.as_str(), why))
-        }
-        Some(bytes) => {
-            let path = path_of(alloc, &bytes)?;
-            Ok(joined(alloc, git_dir, path.as_str())?)
-        }
-        None => Ok(String::from_str(alloc, git_dir)?),
+        Some(bytes) => named_common_dir(rt.alloc(), git_dir, place.as_str(), &bytes),
+        None => Ok(String::from_str(rt.alloc(), git_dir)?),
     }
+}
+
+// Returns the folder that the bytes of a file `commondir` name. `place` is the file's path.
+fn named_common_dir(
+    alloc: Global,
+    git_dir: &str,
+    place: &str,
+    bytes: &[u8],
+) -> Result<String, RepositoryError> {
+    if bytes.is_empty() {
+        let why = Unread::System(io::ErrorKind::UnexpectedEof);
+        return Err(unreadable(alloc, place, why));
+    }
+    let path = path_of(alloc, bytes)?;
+    Ok(joined(alloc, git_dir, path.as_str())?)
 }
 
 /// Returns the folder above an absolute path. None above the root.
 pub fn parent_of(path: &str) -> Option<&str> {
-    match path.rsplit_once('/') {
-        Some((_, "")) | None => None,
-        Some(("", _)) => Some("/"),
-        Some((parent, _)) => Some(parent),
+    let (parent, name) = path.rsplit_once('/')?;
+    if name.is_empty() {
+        None
+    } else if parent.is_empty() {
+        Some("/")
+    } else {
+        Some(parent)
     }
 }

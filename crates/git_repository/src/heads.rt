@@ -132,24 +132,38 @@ fn target_of<R: Files + AllocGlobal>(
     if !is_name(name) {
         return Ok(None);
     }
-    let alloc = rt.alloc();
     let folder = if is_of_worktree(name) {
         git_dir
     } else {
         common_dir
     };
-    match loose_target(rt, joined(alloc, folder, name)?.as_str())? {
-        Loose::Leads(target) => return Ok(Some(target)),
-        Loose::LeadsNowhere => return Ok(None),
-        Loose::Missing => {}
+    let path = joined(rt.alloc(), folder, name)?;
+    match loose_target(rt, path.as_str())? {
+        Loose::Leads(target) => Ok(Some(target)),
+        Loose::LeadsNowhere => Ok(None),
+        Loose::Missing => packed_target(rt, common_dir, name),
     }
-    let path = joined(alloc, common_dir, "packed-refs")?;
+}
+
+// Returns the target of a name by the packed references. None if they don't have it.
+fn packed_target<R: Files + AllocGlobal>(
+    rt: &R,
+    common_dir: &str,
+    name: &str,
+) -> Result<Option<Target>, RepositoryError> {
+    let path = joined(rt.alloc(), common_dir, "packed-refs")?;
     match read_if_there(rt, path.as_str(), PACKED_LIMIT)? {
-        Some(bytes) if matches!(bytes.last(), Some(byte) if *byte != b'\n') => {
-            Err(RepositoryError::CutOff { path })
-        }
+        Some(bytes) if is_cut_off(&bytes) => Err(RepositoryError::CutOff { path }),
         Some(bytes) => Ok(packed(&bytes, name.as_bytes()).map(Target::Commit)),
         None => Ok(None),
+    }
+}
+
+// Returns whether the last line of a text has no end.
+fn is_cut_off(text: &[u8]) -> bool {
+    match text.last() {
+        Some(byte) => *byte != b'\n',
+        None => false,
     }
 }
 
@@ -166,25 +180,35 @@ enum Loose {
 // Returns what a reference's own file leads to. As in git, a symbolic link whose target begins with `refs/` names another
 // reference, a folder is no file, and a link that leads to no file leads nowhere.
 fn loose_target<R: Files + AllocGlobal>(rt: &R, path: &str) -> Result<Loose, RepositoryError> {
-    let alloc = rt.alloc();
-    let without_file = match link_at(rt, path) {
+    match link_at(rt, path) {
         Ok(Some(target)) if target.as_bytes().starts_with(REFERENCES) => {
-            return Ok(Loose::Leads(Target::Name(target)));
+            Ok(Loose::Leads(Target::Name(target)))
         }
-        Ok(Some(_)) => Loose::LeadsNowhere,
-        Ok(None) => Loose::Missing,
-        Err(Unread::System(kind)) if is_missing(kind) => return Ok(Loose::Missing),
-        Err(why) => return Err(unreadable(alloc, path, why)),
-    };
+        Ok(link) => target_of_file(rt, path, link.is_some()),
+        Err(Unread::System(kind)) if is_missing(kind) => Ok(Loose::Missing),
+        Err(why) => Err(unreadable(rt.alloc(), path, why)),
+    }
+}
+
+// Returns what the file at a path, or at the end of a link there, leads to.
+fn target_of_file<R: Files + AllocGlobal>(
+    rt: &R,
+    path: &str,
+    is_link: bool,
+) -> Result<Loose, RepositoryError> {
     match read_regular(rt, path, SMALL_LIMIT) {
-        Ok(found) => match target_in(alloc, &found.bytes)? {
+        Ok(found) => match target_in(rt.alloc(), &found.bytes)? {
             Some(target) => Ok(Loose::Leads(target)),
             None => Ok(Loose::LeadsNowhere),
         },
         Err(Unread::System(kind)) if is_missing(kind) || kind == io::ErrorKind::IsADirectory => {
-            Ok(without_file)
+            if is_link {
+                Ok(Loose::LeadsNowhere)
+            } else {
+                Ok(Loose::Missing)
+            }
         }
-        Err(why) => Err(unreadable(alloc, path, why)),
+        Err(why) => Err(unreadable(rt.alloc(), path, why)),
     }
 }
 

@@ -17,6 +17,9 @@ const MODULES: &str = ".gitmodules";
 // The section of the variables on a submodule.
 const SECTION: &[u8] = b"submodule";
 
+// The value of `ignore` for a submodule that doesn't count.
+const ALL: &[u8] = b"all";
+
 /// The submodules that don't count: `submodule.NAME.ignore` is `all`, in the configuration or, if it isn't set there, in the
 /// worktree's `.gitmodules`. If it is set in neither, `diff.ignoreSubmodules` is `all`.
 #[derive(Drop)]
@@ -46,45 +49,50 @@ impl IgnoredSubmodules {
             Some(found) => is_all(found),
             None => false,
         };
-        let mut found = IgnoredSubmodules {
-            modules: Modules::new(alloc),
-            are_others_ignored,
-            is_unread: false,
-        };
-        let has_modules = index
-            .entries()
-            .iter()
-            .any(|entry| entry.mode.is_submodule());
-        let in_index = index.entries_at(BStr::new(MODULES.as_bytes()));
-        if !has_modules || in_index.iter().any(|entry| entry.stage_raw() != 0) {
-            return Ok(found);
+        if !needs_modules(index) {
+            return Ok(IgnoredSubmodules::without(alloc, are_others_ignored, false));
         }
         let path = joined(alloc, top, MODULES)?;
-        if matches!(fs::symlink_metadata(rt, path.as_str()), Ok(node) if node.is_symlink()) {
-            return Ok(IgnoredSubmodules::unread(alloc, false));
+        if is_link(rt, path.as_str()) {
+            return Ok(IgnoredSubmodules::without(alloc, false, true));
         }
         match read_file(rt, path.as_str()) {
-            Ok(modules) => {
-                if !found.modules.read(alloc, &modules)? {
-                    return Ok(IgnoredSubmodules::unread(alloc, false));
-                }
-                found.modules.override_by(config);
-                Ok(found)
+            Ok(modules) => Ok(IgnoredSubmodules::of(alloc, &modules, config, are_others_ignored)?),
+            Err(error) if error.is_bad_config() => {
+                Ok(IgnoredSubmodules::without(alloc, false, true))
             }
-            Err(RepositoryError::BadConfig { .. }) => Ok(IgnoredSubmodules::unread(alloc, false)),
-            Err(RepositoryError::Unreadable { .. }) => {
-                Ok(IgnoredSubmodules::unread(alloc, are_others_ignored))
+            Err(error) if error.is_unreadable() => {
+                Ok(IgnoredSubmodules::without(alloc, are_others_ignored, true))
             }
             Err(error) => Err(error),
         }
     }
 
-    // Returns what counts if `.gitmodules` isn't read.
-    fn unread(alloc: Global, are_others_ignored: bool) -> IgnoredSubmodules {
+    // Returns what counts by the variables of `.gitmodules` and the configuration.
+    fn of(
+        alloc: Global,
+        variables: &Config,
+        config: &Config,
+        are_others_ignored: bool,
+    ) -> Result<IgnoredSubmodules, AllocError> {
+        let mut modules = Modules::new(alloc);
+        if !modules.read(alloc, variables)? {
+            return Ok(IgnoredSubmodules::without(alloc, false, true));
+        }
+        modules.override_by(config);
+        Ok(IgnoredSubmodules {
+            modules,
+            are_others_ignored,
+            is_unread: false,
+        })
+    }
+
+    // Returns what counts if no line of `.gitmodules` does.
+    fn without(alloc: Global, are_others_ignored: bool, is_unread: bool) -> IgnoredSubmodules {
         IgnoredSubmodules {
             modules: Modules::new(alloc),
             are_others_ignored,
-            is_unread: true,
+            is_unread,
         }
     }
 
@@ -93,6 +101,24 @@ impl IgnoredSubmodules {
         self.modules
             .is_ignored(path)
             .unwrap_or(self.are_others_ignored)
+    }
+}
+
+// Returns whether `.gitmodules` counts: the index has a submodule, and the file isn't in conflict.
+fn needs_modules(index: &State) -> bool {
+    let in_index = index.entries_at(BStr::new(MODULES.as_bytes()));
+    index
+        .entries()
+        .iter()
+        .any(|entry| entry.mode.is_submodule())
+        && !in_index.iter().any(|entry| entry.stage_raw() != 0)
+}
+
+// Returns whether a symbolic link is at a path.
+fn is_link<R: Files>(rt: &R, path: &str) -> bool {
+    match fs::symlink_metadata(rt, path) {
+        Ok(node) => node.is_symlink(),
+        Err(_) => false,
     }
 }
 
@@ -179,7 +205,7 @@ impl Modules {
             self.move_to(alloc, number, value)?;
         } else if variable.has_name(b"ignore") && is_known(value) {
             if let Some(module) = self.list.get_mut(number) {
-                module.is_ignored = Some(value == b"all".as_slice());
+                module.is_ignored = Some(value == ALL);
             }
         }
         Ok(true)
@@ -249,10 +275,10 @@ fn needs_value(variable: &Variable) -> bool {
 }
 
 fn is_all(variable: &Variable) -> bool {
-    matches!(variable.value(), Some(b"all"))
+    variable.value() == Some(ALL)
 }
 
 // Returns whether a value of `ignore` in `.gitmodules` is one of git's. Git passes over others there.
 fn is_known(value: &[u8]) -> bool {
-    matches!(value, b"all" | b"dirty" | b"none" | b"untracked")
+    [ALL, b"dirty", b"none", b"untracked"].contains(&value)
 }

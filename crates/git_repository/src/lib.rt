@@ -2,9 +2,10 @@
 //!
 //! Read `location` first, which finds the repository of a folder by `git_dir`. `settings` are those that a status depends
 //! on, with `format`, from what `sources` names and `parameters` reads. `config` has git's configuration, which `reader`
-//! reads by `state`, and `values` reads a variable's value. `intended` is a worktree in which nested repositories count,
-//! and `attribute_files` finds its attribute files. `submodules` compares the heads of submodules, which `heads` finds.
-//! `regular` opens files, and `files` reads small ones. `lock` replaces the index file, and `error` has the errors.
+//! reads by `state`, and `values` reads a variable's value. `intended` is a worktree in which nested repositories count.
+//! `attribute_files` finds the attribute files: those of the worktree, and those that `outer_attributes` names.
+//! `submodules` compares the heads of submodules, which `heads` finds. `regular` opens files, and `files` reads small ones.
+//! `lock` replaces the index file, and `error` has the errors.
 #![tactic(auto)]
 
 pub mod attribute_files;
@@ -18,6 +19,7 @@ pub mod ignored;
 pub mod intended;
 pub mod location;
 mod lock;
+mod outer_attributes;
 mod parameters;
 pub mod reader;
 pub mod regular;

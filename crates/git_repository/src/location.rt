@@ -2,7 +2,7 @@
 
 use crate::config::Config;
 use crate::error::RepositoryError;
-use crate::files::{canonical, is_folder, joined, variable};
+use crate::files::{bad_environment, canonical, is_folder, joined, variable};
 use crate::git_dir::{Refusal, common_dir_of, git_dir_in, is_git_dir, named_git_dir, parent_of};
 use crate::regular::Unread;
 use crate::settings::{OwnSettings, Settings, read_own, read_settings};
@@ -49,19 +49,17 @@ impl Repository {
         rt: &R,
         folder: &str,
     ) -> Result<Repository, RepositoryError> {
-        let alloc = rt.alloc();
         let folder = working_folder(rt, folder)?;
-        let Place { git_dir, top } = find(rt, folder.as_str())?;
-        let common_dir = common_dir_of(rt, git_dir.as_str())?;
-        let own = read_own(rt, git_dir.as_str(), common_dir.as_str())?;
-        let top = top_of(rt, folder.as_str(), git_dir.as_str(), &own, top)?;
-        let (settings, config) = read_settings(rt, top.as_str(), own)?;
-        let prefix = prefix_of(alloc, top.as_str(), folder.as_str())?;
-        let index = match variable(rt, "GIT_INDEX_FILE")? {
-            Some(path) if path.is_empty() => path,
-            Some(path) => joined(alloc, top.as_str(), path.as_str())?,
-            None => joined(alloc, git_dir.as_str(), "index")?,
-        };
+        let place = find(rt, folder.as_str())?;
+        let (folders, own) = folders_of(rt, folder.as_str(), place)?;
+        let (settings, config) = read_settings(rt, folders.top.as_str(), own)?;
+        let prefix = prefix_of(rt.alloc(), folders.top.as_str(), folder.as_str())?;
+        let index = index_of(rt, &folders)?;
+        let Folders {
+            git_dir,
+            common_dir,
+            top,
+        } = folders;
         Ok(Repository {
             git_dir,
             common_dir,
@@ -71,6 +69,41 @@ impl Repository {
             settings,
             config,
         })
+    }
+}
+
+// The folders of a repository with a worktree, as `Repository` has them.
+#[derive(Drop)]
+struct Folders {
+    git_dir: String,
+    common_dir: String,
+    top: String,
+}
+
+// Returns the folders of a repository that was found from a working folder, and its own settings.
+fn folders_of<R: Files + Env + AllocGlobal>(
+    rt: &R,
+    folder: &str,
+    place: Place,
+) -> Result<(Folders, OwnSettings), RepositoryError> {
+    let Place { git_dir, top } = place;
+    let common_dir = common_dir_of(rt, git_dir.as_str())?;
+    let own = read_own(rt, git_dir.as_str(), common_dir.as_str())?;
+    let top = top_of(rt, folder, git_dir.as_str(), &own, top)?;
+    let folders = Folders {
+        git_dir,
+        common_dir,
+        top,
+    };
+    Ok((folders, own))
+}
+
+// Returns the index file: the one that the environment names, otherwise the repository's own.
+fn index_of<R: Env + AllocGlobal>(rt: &R, folders: &Folders) -> Result<String, RepositoryError> {
+    match variable(rt, "GIT_INDEX_FILE")? {
+        Some(path) if path.is_empty() => Ok(path),
+        Some(path) => Ok(joined(rt.alloc(), folders.top.as_str(), path.as_str())?),
+        None => Ok(joined(rt.alloc(), folders.git_dir.as_str(), "index")?),
     }
 }
 
@@ -124,16 +157,10 @@ fn search<R: Files + AllocGlobal>(
     folder: &str,
     ceilings: &str,
 ) -> Result<Place, RepositoryError> {
-    let alloc = rt.alloc();
     let mut here = folder;
     for _ in 0..usize::MAX {
-        if let Some(git_dir) = git_dir_in(rt, here, Refusal::IsMissing)? {
-            let top = Some(String::from_str(alloc, here)?);
-            return Ok(Place { git_dir, top });
-        }
-        if is_git_dir(rt, here, Refusal::IsMissing)? {
-            let git_dir = String::from_str(alloc, here)?;
-            return Ok(Place { git_dir, top: None });
+        if let Some(place) = place_in(rt, here)? {
+            return Ok(place);
         }
         match parent_of(here) {
             Some(parent) if !is_ceiling(parent, ceilings) => here = parent,
@@ -141,6 +168,22 @@ fn search<R: Files + AllocGlobal>(
         }
     }
     Err(RepositoryError::NotFound)
+}
+
+// Returns the repository of a folder: the one that has its worktree there, or the one whose own folder it is.
+fn place_in<R: Files + AllocGlobal>(
+    rt: &R,
+    folder: &str,
+) -> Result<Option<Place>, RepositoryError> {
+    if let Some(git_dir) = git_dir_in(rt, folder, Refusal::IsMissing)? {
+        let top = Some(String::from_str(rt.alloc(), folder)?);
+        return Ok(Some(Place { git_dir, top }));
+    }
+    if is_git_dir(rt, folder, Refusal::IsMissing)? {
+        let git_dir = String::from_str(rt.alloc(), folder)?;
+        return Ok(Some(Place { git_dir, top: None }));
+    }
+    Ok(None)
 }
 
 fn is_ceiling(folder: &str, ceilings: &str) -> bool {
@@ -160,32 +203,49 @@ fn top_of<R: Files + Env + AllocGlobal>(
     own: &OwnSettings,
     found: Option<String>,
 ) -> Result<String, RepositoryError> {
-    let alloc = rt.alloc();
-    if let Some(path) = variable(rt, "GIT_WORK_TREE")? {
-        if path.is_empty() {
-            let name = String::from_str(alloc, "GIT_WORK_TREE")?;
-            return Err(RepositoryError::BadEnvironment { name });
-        }
-        return named_top(rt, joined(alloc, folder, path.as_str())?.as_str());
-    }
-    if own.bare == Some(true) {
-        return Err(RepositoryError::NoWorktree);
-    }
-    match &own.worktree {
-        Some(path) => named_top(rt, joined(alloc, git_dir, path.as_str())?.as_str()),
-        None => match found {
-            Some(top) => Ok(top),
-            None => Err(RepositoryError::NoWorktree),
-        },
+    match variable(rt, "GIT_WORK_TREE")? {
+        Some(path) if path.is_empty() => Err(bad_environment(rt.alloc(), "GIT_WORK_TREE")),
+        Some(path) => named_top(rt, folder, path.as_str()),
+        None if own.bare == Some(true) => Err(RepositoryError::NoWorktree),
+        None => own_top(rt, git_dir, &own.worktree, found),
     }
 }
 
-// Returns the folder of a worktree that the environment or the settings name. As in git, there is none without a folder.
-fn named_top<R: Files + AllocGlobal>(rt: &R, path: &str) -> Result<String, RepositoryError> {
-    match canonical(rt, path) {
-        Ok(top) if is_folder(rt, top.as_str())? => Ok(top),
-        Ok(_) | Err(RepositoryError::Unreadable { .. }) => Err(RepositoryError::NoWorktree),
+// Returns the worktree's folder: what the settings say, otherwise the one that was found.
+fn own_top<R: Files + AllocGlobal>(
+    rt: &R,
+    git_dir: &str,
+    worktree: &Option<String>,
+    found: Option<String>,
+) -> Result<String, RepositoryError> {
+    match (worktree, found) {
+        (Some(path), _) => named_top(rt, git_dir, path.as_str()),
+        (None, Some(top)) => Ok(top),
+        (None, None) => Err(RepositoryError::NoWorktree),
+    }
+}
+
+// Returns the folder of a worktree that the environment or the settings name, below this folder or absolute. As in git,
+// there is none without a folder.
+fn named_top<R: Files + AllocGlobal>(
+    rt: &R,
+    folder: &str,
+    path: &str,
+) -> Result<String, RepositoryError> {
+    let path = joined(rt.alloc(), folder, path)?;
+    match canonical(rt, path.as_str()) {
+        Ok(top) => checked_top(rt, top),
+        Err(error) if error.is_unreadable() => Err(RepositoryError::NoWorktree),
         Err(error) => Err(error),
+    }
+}
+
+// Checks that a folder is at the path of a worktree.
+fn checked_top<R: Files>(rt: &R, top: String) -> Result<String, RepositoryError> {
+    if is_folder(rt, top.as_str())? {
+        Ok(top)
+    } else {
+        Err(RepositoryError::NoWorktree)
     }
 }
 

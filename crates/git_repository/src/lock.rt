@@ -25,21 +25,24 @@ pub fn time_of_lock<R: Files + AllocGlobal>(
     index: &str,
 ) -> Result<SystemTime, RepositoryError> {
     let path = target_of(rt, index)?;
-    let lock = format!(in rt.alloc(); "{path}.lock")?;
+    let lock = lock_of(rt.alloc(), path.as_str())?;
     drop(new_lock(rt, lock.as_str())?);
-    let time = match fs::symlink_metadata(rt, lock.as_str()) {
-        Ok(found) => found.modified(),
-        Err(error) => Err(error),
-    };
+    let time = time_of(rt, lock.as_str());
     let ended = fs::remove_file(rt, lock.as_str());
-    match (time, ended) {
-        (Ok(time), Ok(())) => Ok(time),
-        (Err(error), _) | (_, Err(error)) => Err(unwritable(
-            rt.alloc(),
-            lock.as_str(),
-            error.kind(),
-        )),
+    match time.and_then(|time| ended.map(|_| time)) {
+        Ok(time) => Ok(time),
+        Err(error) => Err(unwritable(rt.alloc(), lock.as_str(), error.kind())),
     }
+}
+
+// Returns the path of the lock of a file.
+fn lock_of(alloc: Global, path: &str) -> Result<String, AllocError> {
+    format!(in alloc; "{path}.lock")
+}
+
+// Returns the time of the last change of a file.
+fn time_of<R: Files>(rt: &R, path: &str) -> io::Result<SystemTime> {
+    fs::symlink_metadata(rt, path)?.modified()
 }
 
 /// Replaces an index file whole if it still has the bytes `old`, or leaves it unchanged.
@@ -65,25 +68,46 @@ pub fn replace_index<R: Files + AllocGlobal>(
     time: SystemTime,
 ) -> Result<(), RepositoryError> {
     let path = target_of(rt, index)?;
-    let lock = format!(in rt.alloc(); "{path}.lock")?;
+    let lock = lock_of(rt.alloc(), path.as_str())?;
     let file = new_lock(rt, lock.as_str())?;
-    let found = match metadata_of_unchanged(rt, path.as_str(), old) {
-        Ok(found) => found,
-        Err(error) => {
-            // If the lock can't be removed it stays, and the error that is returned says more.
-            let _ = fs::remove_file(rt, lock.as_str());
-            return Err(error);
+    match metadata_of_unchanged(rt, path.as_str(), old) {
+        Ok(found) => {
+            let replacement = replacement_of(new, &found, time);
+            replace_locked(rt, path.as_str(), lock.as_str(), file, replacement)
         }
-    };
-    let replacement = Replacement {
-        bytes: new,
+        Err(error) => {
+            give_up(rt, lock.as_str());
+            Err(error)
+        }
+    }
+}
+
+// Removes a lock. If the system refuses it stays, and the error of the command says more than that of the removal.
+fn give_up<R: Files>(rt: &R, lock: &str) {
+    let _ = fs::remove_file(rt, lock);
+}
+
+// Returns what a file with this metadata is replaced by.
+fn replacement_of<'a>(bytes: &'a [u8], found: &Metadata, time: SystemTime) -> Replacement<'a> {
+    Replacement {
+        bytes,
         permissions: Some(found.mode()),
         owner: Some((found.uid(), found.gid())),
         modified: Some(time),
-    };
-    match replace_file(rt, path.as_str(), lock.as_str(), file, replacement) {
+    }
+}
+
+// Replaces a file under its lock.
+fn replace_locked<R: Files + AllocGlobal>(
+    rt: &R,
+    path: &str,
+    lock: &str,
+    file: R::File,
+    replacement: Replacement<'_>,
+) -> Result<(), RepositoryError> {
+    match replace_file(rt, path, lock, file, replacement) {
         Ok(()) => Ok(()),
-        Err(error) => Err(unwritable(rt.alloc(), lock.as_str(), error.kind())),
+        Err(error) => Err(unwritable(rt.alloc(), lock, error.kind())),
     }
 }
 

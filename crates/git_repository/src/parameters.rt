@@ -37,21 +37,38 @@ fn append_first<'a>(
     let Some((name, after)) = unquoted(alloc, text)? else {
         return Ok(None);
     };
-    let Some(after) = after.strip_prefix('=') else {
-        match name.as_str().split_once('=') {
-            Some((name, value)) => config.push(alloc, name, Some(value.as_bytes()))?,
-            None => config.push(alloc, name.as_str(), None)?,
+    match after.strip_prefix('=') {
+        Some(after) => append_value(alloc, name.as_str(), after, config),
+        None => {
+            append_whole(alloc, name.as_str(), config)?;
+            Ok(Some(after))
         }
-        return Ok(Some(after));
-    };
-    if after.is_empty() || after.starts_with(' ') {
-        config.push(alloc, name.as_str(), None)?;
-        return Ok(Some(after));
     }
-    let Some((value, after)) = unquoted(alloc, after)? else {
+}
+
+// Appends a variable of which name, `=` and value were quoted as one.
+fn append_whole(alloc: Global, text: &str, config: &mut Config) -> Result<(), AllocError> {
+    match text.split_once('=') {
+        Some((name, value)) => config.push(alloc, name, Some(value.as_bytes())),
+        None => config.push(alloc, text, None),
+    }
+}
+
+// Appends a variable with the value at the beginning of a text, if one is there. Returns the text after it.
+fn append_value<'a>(
+    alloc: Global,
+    name: &str,
+    text: &'a str,
+    config: &mut Config,
+) -> Result<Option<&'a str>, AllocError> {
+    if text.is_empty() || text.starts_with(' ') {
+        config.push(alloc, name, None)?;
+        return Ok(Some(text));
+    }
+    let Some((value, after)) = unquoted(alloc, text)? else {
         return Ok(None);
     };
-    config.push(alloc, name.as_str(), Some(value.as_bytes()))?;
+    config.push(alloc, name, Some(value.as_bytes()))?;
     Ok(Some(after))
 }
 

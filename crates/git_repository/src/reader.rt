@@ -37,13 +37,7 @@ pub fn read_config(alloc: Global, bytes: &[u8]) -> Result<Config, ConfigError> {
     let bytes = bytes.strip_prefix(&BYTE_ORDER_MARK).unwrap_or(bytes);
     let mut reader = Reader::new(alloc);
     for line in bytes.split_inclusive(|byte| *byte == b'\n') {
-        match line.strip_suffix(b"\r\n") {
-            Some(text) => {
-                reader.feed_all(text)?;
-                reader.feed(b'\n')?;
-            }
-            None => reader.feed_all(line)?,
-        }
+        reader.feed_line(line)?;
     }
     reader.finish()
 }
@@ -60,6 +54,17 @@ impl Reader {
             value: Vec::new(alloc),
             value_len: 0,
             config: Config::new(alloc),
+        }
+    }
+
+    // Reads a line with its end. One of two bytes counts as a line feed.
+    fn feed_line(&mut self, line: &[u8]) -> Result<(), ConfigError> {
+        match line.strip_suffix(b"\r\n") {
+            Some(text) => {
+                self.feed_all(text)?;
+                self.feed(b'\n')
+            }
+            None => self.feed_all(line),
         }
     }
 

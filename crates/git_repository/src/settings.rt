@@ -3,9 +3,9 @@
 use crate::config::Config;
 use crate::error::RepositoryError;
 use crate::files::{joined, path_of, variable};
-use crate::format::read_format;
+use crate::format::{Format, read_format};
 use crate::sources::{append_environment, read_file, read_outer};
-use crate::values::{is_text, switch, switch_or_word};
+use crate::values::{is_text, switch, switch_or, switch_or_word};
 use status_index::HashKind;
 use std::alloc::Global;
 use std::rt::{Env, Files};
@@ -59,22 +59,17 @@ pub fn read_own<R: Files + AllocGlobal>(
     git_dir: &str,
     common_dir: &str,
 ) -> Result<OwnSettings, RepositoryError> {
-    let alloc = rt.alloc();
-    let mut config = read_file(rt, joined(alloc, common_dir, "config")?.as_str())?;
-    let format = read_format(alloc, &config)?;
-    let is_linked = git_dir != common_dir && !format.has_worktree_config;
+    let path = joined(rt.alloc(), common_dir, "config")?;
+    let mut config = read_file(rt, path.as_str())?;
+    let format = read_format(rt.alloc(), &config)?;
     if format.has_worktree_config {
-        config.append(read_file(rt, joined(alloc, git_dir, "config.worktree")?.as_str())?)?;
+        append_own(rt, git_dir, &mut config)?;
     }
-    let place = if is_linked {
+    let is_linked = git_dir != common_dir && !format.has_worktree_config;
+    let (bare, worktree) = if is_linked {
         (None, None)
     } else {
-        read_place(alloc, &config)?
-    };
-    let (bare, worktree) = if format.is_stated {
-        place
-    } else {
-        (None, None)
+        read_place(rt.alloc(), &config, format)?
     };
     Ok(OwnSettings {
         config,
@@ -82,6 +77,16 @@ pub fn read_own<R: Files + AllocGlobal>(
         bare,
         worktree,
     })
+}
+
+// Appends the configuration that a worktree has of its own.
+fn append_own<R: Files + AllocGlobal>(
+    rt: &R,
+    git_dir: &str,
+    config: &mut Config,
+) -> Result<(), RepositoryError> {
+    let path = joined(rt.alloc(), git_dir, "config.worktree")?;
+    Ok(config.append(read_file(rt, path.as_str())?)?)
 }
 
 /// Adds the configuration of the system, the user and the environment to a repository's own, and returns the settings. `top`
@@ -94,48 +99,77 @@ pub fn read_settings<R: Files + Env + AllocGlobal>(
     top: &str,
     own: OwnSettings,
 ) -> Result<(Settings, Config), RepositoryError> {
-    let alloc = rt.alloc();
     let mut config = read_outer(rt, top)?;
     config.append(own.config)?;
     append_environment(rt, &mut config)?;
-    let settings = Settings {
-        kind: own.kind,
-        file_mode: switch(alloc, &config, "core.filemode")?.unwrap_or(true),
-        symlinks: switch(alloc, &config, "core.symlinks")?.unwrap_or(true),
-        trust_ctime: switch(alloc, &config, "core.trustctime")?.unwrap_or(true),
-        check_stat_minimal: is_minimal(&config),
-        quote_path: switch(alloc, &config, "core.quotepath")?.unwrap_or(true),
-        auto_line_ends: switch_or_word(alloc, &config, "core.autocrlf", Some(b"input"))?.unwrap_or(
-            false,
-        ),
-        ignore_case: switch(alloc, &config, "core.ignorecase")?.unwrap_or(false),
-        has_other_attributes: config.get(b"attr", None, b"tree").is_some()
-            || variable(rt, "GIT_ATTR_SOURCE")?.is_some()
-            || variable(rt, "GIT_COMMON_DIR")?.is_some(),
-        has_include: config.has_include(),
-    };
+    let settings = settings_in(rt, own.kind, &config)?;
     Ok((settings, config))
 }
 
-// Returns whether a repository has no worktree, and the worktree that it names.
+// Returns the settings that a whole configuration and the environment state.
+fn settings_in<R: Env + AllocGlobal>(
+    rt: &R,
+    kind: HashKind,
+    config: &Config,
+) -> Result<Settings, RepositoryError> {
+    let alloc = rt.alloc();
+    Ok(Settings {
+        kind,
+        file_mode: switch_or(alloc, config, "core.filemode", true)?,
+        symlinks: switch_or(alloc, config, "core.symlinks", true)?,
+        trust_ctime: switch_or(alloc, config, "core.trustctime", true)?,
+        check_stat_minimal: is_minimal(config),
+        quote_path: switch_or(alloc, config, "core.quotepath", true)?,
+        auto_line_ends: switch_or_word(alloc, config, "core.autocrlf", Some(b"input"))?.unwrap_or(
+            false,
+        ),
+        ignore_case: switch_or(alloc, config, "core.ignorecase", false)?,
+        has_other_attributes: has_other_attributes(rt, config)?,
+        has_include: config.has_include(),
+    })
+}
+
+// Returns whether git reads attributes elsewhere, as `Settings` states.
+fn has_other_attributes<R: Env + AllocGlobal>(
+    rt: &R,
+    config: &Config,
+) -> Result<bool, RepositoryError> {
+    Ok(
+        config.get(b"attr", None, b"tree").is_some()
+            || variable(rt, "GIT_ATTR_SOURCE")?.is_some()
+            || variable(rt, "GIT_COMMON_DIR")?.is_some(),
+    )
+}
+
+// Returns whether a repository has no worktree, and the worktree that it names. Both are read, and then count only if the
+// format is stated.
 fn read_place(
     alloc: Global,
     config: &Config,
+    format: Format,
 ) -> Result<(Option<bool>, Option<String>), RepositoryError> {
     let bare = switch(alloc, config, "core.bare")?;
-    match config.get(b"core", None, b"worktree") {
-        Some(found) => {
-            let path = path_of(alloc, found.value().unwrap_or(b""))?;
-            if path.is_empty() {
-                return Err(RepositoryError::BadValue {
-                    name: "core.worktree",
-                    value: path,
-                });
-            }
-            Ok((bare, Some(path)))
-        }
-        None => Ok((bare, None)),
+    let worktree = read_worktree(alloc, config)?;
+    if format.is_stated {
+        Ok((bare, worktree))
+    } else {
+        Ok((None, None))
     }
+}
+
+// Returns the worktree that a repository names. None if it names none.
+fn read_worktree(alloc: Global, config: &Config) -> Result<Option<String>, RepositoryError> {
+    let Some(found) = config.get(b"core", None, b"worktree") else {
+        return Ok(None);
+    };
+    let path = path_of(alloc, found.value().unwrap_or(b""))?;
+    if path.is_empty() {
+        return Err(RepositoryError::BadValue {
+            name: "core.worktree",
+            value: path,
+        });
+    }
+    Ok(Some(path))
 }
 
 // Returns whether the last word of `core.checkStat` that git knows is `minimal`.

@@ -2,7 +2,7 @@
 
 use crate::config::{Config, ConfigError};
 use crate::error::RepositoryError;
-use crate::files::{configuration_folder, joined, read_if_there, variable};
+use crate::files::{bad_environment, configuration_folder, joined, read_if_there, variable};
 use crate::parameters::append_parameters;
 use crate::reader::read_config;
 use crate::regular::{SMALL_LIMIT, Unread};
@@ -41,23 +41,26 @@ pub fn read_outer<R: Files + Env + AllocGlobal>(
     rt: &R,
     top: &str,
 ) -> Result<Config, RepositoryError> {
-    let alloc = rt.alloc();
-    let mut config = Config::new(alloc);
-    if !is_set(rt, "GIT_CONFIG_NOSYSTEM")? {
-        let path = match variable(rt, "GIT_CONFIG_SYSTEM")? {
-            Some(path) => from_top(alloc, top, path)?,
-            None => String::from_str(alloc, "/etc/gitconfig")?,
-        };
-        config.append(read_file(rt, path.as_str())?)?;
-    }
+    let mut config = read_system(rt, top)?;
     match variable(rt, "GIT_CONFIG_GLOBAL")? {
         Some(path) => {
-            let path = from_top(alloc, top, path)?;
+            let path = from_top(rt.alloc(), top, path)?;
             config.append(read_user_file(rt, path.as_str())?)?;
         }
         None => append_user(rt, top, &mut config)?,
     }
     Ok(config)
+}
+
+// Reads the configuration of the system.
+fn read_system<R: Files + Env + AllocGlobal>(rt: &R, top: &str) -> Result<Config, RepositoryError> {
+    if is_set(rt, "GIT_CONFIG_NOSYSTEM")? {
+        return Ok(Config::new(rt.alloc()));
+    }
+    match variable(rt, "GIT_CONFIG_SYSTEM")? {
+        Some(path) => read_file(rt, from_top(rt.alloc(), top, path)?.as_str()),
+        None => read_file(rt, "/etc/gitconfig"),
+    }
 }
 
 // Returns the path of a file that the environment names. The empty path stays, and names none.
@@ -71,13 +74,19 @@ fn from_top(alloc: Global, top: &str, path: String) -> Result<String, AllocError
 // Reads a configuration file of the user. As in git, one that may not be read has no variables.
 fn read_user_file<R: Files + AllocGlobal>(rt: &R, path: &str) -> Result<Config, RepositoryError> {
     match read_file(rt, path) {
-        Err(
-            RepositoryError::Unreadable {
-                why: Unread::System(io::ErrorKind::PermissionDenied),
-                ..
-            },
-        ) => Ok(Config::new(rt.alloc())),
-        read => read,
+        Ok(config) => Ok(config),
+        Err(error) if is_denied(&error) => Ok(Config::new(rt.alloc())),
+        Err(error) => Err(error),
+    }
+}
+
+// Returns whether the user may not read a file.
+fn is_denied(error: &RepositoryError) -> bool {
+    match error {
+        RepositoryError::Unreadable { why, .. } => {
+            *why == Unread::System(io::ErrorKind::PermissionDenied)
+        }
+        _ => false,
     }
 }
 
@@ -101,19 +110,27 @@ fn append_user<R: Files + Env + AllocGlobal>(
     top: &str,
     config: &mut Config,
 ) -> Result<(), RepositoryError> {
-    let alloc = rt.alloc();
     let home = variable(rt, "HOME")?;
     if let Some(folder) = configuration_folder(rt, &home)? {
-        let folder = joined(alloc, top, folder.as_str())?;
-        let path = joined(alloc, folder.as_str(), "git/config")?;
-        config.append(read_user_file(rt, path.as_str())?)?;
+        append_below(rt, top, folder.as_str(), "git/config", config)?;
     }
     if let Some(home) = home {
-        let home = joined(alloc, top, home.as_str())?;
-        let path = joined(alloc, home.as_str(), ".gitconfig")?;
-        config.append(read_user_file(rt, path.as_str())?)?;
+        append_below(rt, top, home.as_str(), ".gitconfig", config)?;
     }
     Ok(())
+}
+
+// Appends the configuration of a file in a folder of the user.
+fn append_below<R: Files + AllocGlobal>(
+    rt: &R,
+    top: &str,
+    folder: &str,
+    name: &str,
+    config: &mut Config,
+) -> Result<(), RepositoryError> {
+    let folder = joined(rt.alloc(), top, folder)?;
+    let path = joined(rt.alloc(), folder.as_str(), name)?;
+    Ok(config.append(read_user_file(rt, path.as_str())?)?)
 }
 
 /// Appends the variables that `GIT_CONFIG_COUNT`, `GIT_CONFIG_KEY_0`, `GIT_CONFIG_VALUE_0` and so on state, and then those
@@ -127,12 +144,13 @@ pub fn append_environment<R: Env + AllocGlobal>(
 ) -> Result<(), RepositoryError> {
     append_counted(rt, config)?;
     let name = "GIT_CONFIG_PARAMETERS";
-    match variable(rt, name)? {
-        Some(text) if !append_parameters(rt.alloc(), text.as_str(), config)? => {
-            let name = String::from_str(rt.alloc(), name)?;
-            Err(RepositoryError::BadEnvironment { name })
-        }
-        _ => Ok(()),
+    let Some(text) = variable(rt, name)? else {
+        return Ok(());
+    };
+    if append_parameters(rt.alloc(), text.as_str(), config)? {
+        Ok(())
+    } else {
+        Err(bad_environment(rt.alloc(), name))
     }
 }
 
@@ -141,21 +159,34 @@ fn append_counted<R: Env + AllocGlobal>(
     rt: &R,
     config: &mut Config,
 ) -> Result<(), RepositoryError> {
-    let alloc = rt.alloc();
-    let Some(count) = variable(rt, "GIT_CONFIG_COUNT")? else {
-        return Ok(());
-    };
-    let count = number_of(count.as_bytes()).unwrap_or(-1);
-    if count < 0 || count > ENVIRONMENT_LIMIT {
-        let name = String::from_str(alloc, "GIT_CONFIG_COUNT")?;
-        return Err(RepositoryError::BadEnvironment { name });
-    }
-    for number in 0..count {
-        let key = needed(rt, format!(in alloc; "GIT_CONFIG_KEY_{number}")?)?;
-        let value = needed(rt, format!(in alloc; "GIT_CONFIG_VALUE_{number}")?)?;
-        config.push(alloc, key.as_str(), Some(value.as_bytes()))?;
+    for number in 0..counted(rt)? {
+        append_numbered(rt, config, number)?;
     }
     Ok(())
+}
+
+// Returns how many variables `GIT_CONFIG_COUNT` counts.
+fn counted<R: Env + AllocGlobal>(rt: &R) -> Result<i32, RepositoryError> {
+    let name = "GIT_CONFIG_COUNT";
+    let Some(text) = variable(rt, name)? else {
+        return Ok(0);
+    };
+    match number_of(text.as_bytes()) {
+        Some(count) if count >= 0 && count <= ENVIRONMENT_LIMIT => Ok(count),
+        _ => Err(bad_environment(rt.alloc(), name)),
+    }
+}
+
+// Appends the variable of a number.
+fn append_numbered<R: Env + AllocGlobal>(
+    rt: &R,
+    config: &mut Config,
+    number: i32,
+) -> Result<(), RepositoryError> {
+    let alloc = rt.alloc();
+    let key = needed(rt, format!(in alloc; "GIT_CONFIG_KEY_{number}")?)?;
+    let value = needed(rt, format!(in alloc; "GIT_CONFIG_VALUE_{number}")?)?;
+    Ok(config.push(alloc, key.as_str(), Some(value.as_bytes()))?)
 }
 
 // Returns the value of an environment variable that has to be set.

@@ -72,22 +72,32 @@ impl<'a, R: Files + AllocGlobal> SubmoduleStatus for SubmoduleHeads<'a, R> {
             return Ok(None);
         }
         match head_below(self.rt, self.top, path) {
-            Ok(Some(id)) if id.kind() == entry.id.kind() && id != entry.id => Ok(Some(
-                SubmoduleHead { id },
-            )),
-            Ok(_)
-            | Err(RepositoryError::NotARepository { .. } | RepositoryError::BadGitFile { .. }) =>
-                Ok(None),
-            Err(error) => Err(fault_of(self.rt.alloc(), &error)),
+            Ok(head) => Ok(other_head(head, entry)),
+            Err(error) => without_head(self.rt.alloc(), &error),
         }
     }
 }
 
-// Returns why a submodule has no status.
-fn fault_of(alloc: Global, error: &RepositoryError) -> SubmoduleFault {
-    if matches!(error, RepositoryError::Memory(_)) {
-        return SubmoduleFault::Memory;
+// Returns the head of a submodule if it is another one than its entry has, with an id of the same length.
+fn other_head(head: Option<ObjectId>, entry: &Entry) -> Option<SubmoduleHead> {
+    let id = head?;
+    (id.kind() == entry.id.kind() && id != entry.id).then_some(SubmoduleHead { id })
+}
+
+// Returns the status of a submodule whose head isn't known: it is unchanged if it has no repository.
+fn without_head(
+    alloc: Global,
+    error: &RepositoryError,
+) -> Result<Option<SubmoduleHead>, SubmoduleFault> {
+    match error {
+        RepositoryError::NotARepository { .. } | RepositoryError::BadGitFile { .. } => Ok(None),
+        RepositoryError::Memory(_) => Err(SubmoduleFault::Memory),
+        error => Err(fault_of(alloc, error)),
     }
+}
+
+// Returns the fault that has an error's words.
+fn fault_of(alloc: Global, error: &RepositoryError) -> SubmoduleFault {
     let Ok(words) = format!(in alloc; "{error}") else {
         return SubmoduleFault::Memory;
     };
@@ -110,14 +120,19 @@ pub fn head_below<R: Files + AllocGlobal>(
         return Ok(None);
     };
     let folder = joined(rt.alloc(), top, path)?;
-    let Some(git_dir) = git_dir_in(rt, folder.as_str(), Refusal::IsError)? else {
-        return Ok(None);
-    };
-    let common_dir = common_dir_of(rt, git_dir.as_str())?;
-    let config = read_file(
-        rt,
-        joined(rt.alloc(), common_dir.as_str(), "config")?.as_str(),
-    )?;
-    read_format(rt.alloc(), &config)?;
-    head_of(rt, git_dir.as_str(), common_dir.as_str())
+    match git_dir_in(rt, folder.as_str(), Refusal::IsError)? {
+        Some(git_dir) => known_head(rt, git_dir.as_str()),
+        None => Ok(None),
+    }
+}
+
+// Returns the commit that the `HEAD` of a repository leads to, after a check that its format is known.
+fn known_head<R: Files + AllocGlobal>(
+    rt: &R,
+    git_dir: &str,
+) -> Result<Option<ObjectId>, RepositoryError> {
+    let common_dir = common_dir_of(rt, git_dir)?;
+    let path = joined(rt.alloc(), common_dir.as_str(), "config")?;
+    read_format(rt.alloc(), &read_file(rt, path.as_str())?)?;
+    head_of(rt, git_dir, common_dir.as_str())
 }

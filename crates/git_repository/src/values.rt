@@ -82,6 +82,19 @@ pub fn switch(
     switch_or_word(alloc, config, name, None)
 }
 
+/// Returns a boolean, or this one if it isn't set.
+///
+/// # Errors
+/// As for `switch`.
+pub(crate) fn switch_or(
+    alloc: Global,
+    config: &Config,
+    name: &'static str,
+    unset: bool,
+) -> Result<bool, RepositoryError> {
+    Ok(switch(alloc, config, name)?.unwrap_or(unset))
+}
+
 /// Returns a boolean that may also be this word, which is true.
 ///
 /// # Errors
@@ -98,20 +111,27 @@ pub fn switch_or_word(
     let mut found = None;
     for variable in config.variables() {
         if variable.is_named(section.as_bytes(), None, last.as_bytes()) {
-            let value = variable.value();
-            let is_word = word.is_some_and(|word| is_text(value, word));
-            match if is_word { Some(true) } else { bool_of(value) } {
-                Some(is_on) => found = Some(is_on),
-                None => {
-                    return Err(RepositoryError::BadBoolean {
-                        name,
-                        value: String::from_utf8_lossy(alloc, value.unwrap_or(b""))?,
-                    });
-                }
-            }
+            found = Some(is_on(alloc, name, variable.value(), word)?);
         }
     }
     Ok(found)
+}
+
+// Returns the boolean that a value of a variable is. This word is true.
+fn is_on(
+    alloc: Global,
+    name: &'static str,
+    value: Option<&[u8]>,
+    word: Option<&[u8]>,
+) -> Result<bool, RepositoryError> {
+    let is_word = word.is_some_and(|word| is_text(value, word));
+    match if is_word { Some(true) } else { bool_of(value) } {
+        Some(is_on) => Ok(is_on),
+        None => Err(RepositoryError::BadBoolean {
+            name,
+            value: String::from_utf8_lossy(alloc, value.unwrap_or(b""))?,
+        }),
+    }
 }
 
 /// Returns whether a value is a word, in lower or upper case.
