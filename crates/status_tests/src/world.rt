@@ -1,9 +1,8 @@
 //! Histories in the library and stored indexes. The rows of the program have others, also with events that are refused.
 
-use crate::support::contents::BAR;
 use crate::support::prelude::*;
 use Step::{Link, Remove, Stage, Tick, Write};
-use gix_status::index::stat;
+use gix_status::index::{HashKind, compute_hash, stat};
 use gix_status::index_as_worktree::{Change, EntryStatus, Outcome};
 use gix_status::stack::{StackError, SymlinkCheck};
 use gix_status::world::{Comparer, Event, Refusal, Report, World};
@@ -42,7 +41,7 @@ fn is_bar(report: &Report, to_zero: bool) -> bool {
     };
     let changed = Change::Modification {
         executable_bit_changed: false,
-        content_change: Some(Some(BAR)),
+        content_change: Some(Some(compute_hash(HashKind::Sha1, b"bar"))),
         set_entry_stat_size_zero: to_zero,
     };
     let outcome = Outcome {

@@ -5,28 +5,24 @@ use crate::support::prelude::*;
 use FolderNode::{Changed, File, Folder, Link, Mode};
 use status_base::worktree::StatFields;
 use status_base::worktree::disk::fault_of;
-use status_index::Time;
+use status_index::{Stat, Time, TimeError};
 use std::time::Duration;
 use std::{fs, io};
 
-// Returns what `lstat` reports of a node in a worktree that threads may share.
-fn lstat<W: Worktree + Sync>(worktree: &W, path: &str) -> Result<Metadata, Fault> {
-    worktree.lstat(BStr::from(path))
-}
-
-// Returns a file of three bytes that isn't executable, and was last changed at this time.
-fn file_at(stamp: Option<Time>) -> Metadata {
-    Metadata {
-        kind: NodeKind::File,
-        len: 3,
-        executable: false,
-        mtime: stamp,
-        ctime: stamp,
-        dev: 0,
-        ino: 0,
-        uid: 0,
-        gid: 0,
-    }
+// Returns whether these are a file of three bytes that isn't executable, and was last changed at this time, and nothing
+// else is known of it.
+fn is_file(found: &Metadata, stamp: Option<Time>) -> bool {
+    let stat = match stamp {
+        Some(time) => Ok(Stat {
+            mtime: time,
+            ctime: time,
+            size: 3,
+            ..Stat::default()
+        }),
+        None => Err(TimeError),
+    };
+    let is_plain = found.kind == NodeKind::File && found.len == 3 && !found.executable;
+    is_plain && found.mtime == found.ctime && found.to_stat() == stat
 }
 
 #[test]
@@ -56,9 +52,13 @@ fn all_of_a_file_is_reported(rt: HostRuntime) -> Result<(), Fail> {
         ),
         ("later", None),
     ] {
-        assert!(rt; lstat(&worktree, path) == Ok(file_at(stamp)), "{path}");
+        assert!(rt;
+            is_file(&worktree.lstat(BStr::from(path))?, stamp),
+            "{path}"
+        );
     }
-    assert!(rt; StatFields::Portable.metadata_of(&fs::Metadata::of_file(3)) == file_at(None));
+    let untimed = StatFields::Portable.metadata_of(&fs::Metadata::of_file(3));
+    assert!(rt; is_file(&untimed, None));
     fs::remove_dir_all(&rt, folder.as_str())?;
     Ok(())
 }
@@ -178,59 +178,64 @@ fn errors_of_the_system_have_faults(rt: HostRuntime) {
     }
 }
 
-// Returns the kind of a node and its length, if it isn't a directory, or the fault.
-fn node_text<W: Worktree>(
-    alloc: Global,
-    worktree: &W,
-    path: BStr<'_>,
-) -> Result<String, AllocError> {
-    match worktree.lstat(path) {
-        Ok(found) if found.kind == NodeKind::Directory => format!(in alloc; "{:?}", found.kind),
-        Ok(found) => format!(in alloc; "{:?} of {}", found.kind, found.len),
-        Err(fault) => format!(in alloc; "{fault}"),
-    }
-}
-
-// Returns how many bytes the first read of a file returns, of at most eight, or the fault of the read or of opening.
-fn read_text<W: Worktree>(
-    alloc: Global,
-    worktree: &W,
-    path: BStr<'_>,
-) -> Result<String, AllocError> {
-    match worktree.open(path) {
-        Ok(mut file) => match file.read_bytes(&mut [0; 8]) {
-            Ok(count) => format!(in alloc; "{count} bytes"),
-            Err(fault) => format!(in alloc; "unread, {fault}"),
-        },
-        Err(fault) => format!(in alloc; "{fault}"),
-    }
-}
-
-// Returns the target of a link, or the fault. The bytes in the buffer are replaced, by nothing if there is a fault.
-fn target_text<W: Worktree>(
-    alloc: Global,
-    worktree: &W,
-    path: BStr<'_>,
-) -> Result<String, AllocError> {
-    let mut buffer = Vec::from_slice(alloc, b"before")?;
-    let read = worktree.read_link(path, &mut buffer);
-    let target = BStr::new(buffer.as_slice());
-    match read {
-        Ok(()) => format!(in alloc; "to {target}"),
-        Err(fault) => format!(in alloc; "{fault}{target}"),
-    }
-}
-
 // A path, and the results of `lstat`, of a read and of reading the link there.
 type Look<'a> = (&'a [u8], &'a str, &'a str, &'a str);
+
+// A path of a worktree.
+#[derive(Clone, Copy)]
+struct Site<'a, W> {
+    alloc: Global,
+    worktree: &'a W,
+    path: BStr<'a>,
+}
+
+impl<'a, W: Worktree> Site<'a, W> {
+    // Returns the kind of the node and its length, if it isn't a directory, or the fault.
+    fn node(&self) -> Result<String, AllocError> {
+        match self.worktree.lstat(self.path) {
+            Ok(found) if found.kind == NodeKind::Directory => {
+                format!(in self.alloc; "{:?}", found.kind)
+            }
+            Ok(found) => format!(in self.alloc; "{:?} of {}", found.kind, found.len),
+            Err(fault) => format!(in self.alloc; "{fault}"),
+        }
+    }
+
+    // Returns how many bytes the first read of the file returns, of at most eight, or the fault of the read or of opening.
+    fn first_read(&self) -> Result<String, AllocError> {
+        let mut file = match self.worktree.open(self.path) {
+            Ok(file) => file,
+            Err(fault) => return format!(in self.alloc; "{fault}"),
+        };
+        match file.read_bytes(&mut [0; 8]) {
+            Ok(count) => format!(in self.alloc; "{count} bytes"),
+            Err(fault) => format!(in self.alloc; "unread, {fault}"),
+        }
+    }
+
+    // Returns the target of the link, or the fault. The bytes in the buffer are replaced, by nothing if there is a fault.
+    fn target(&self) -> Result<String, AllocError> {
+        let mut buffer = Vec::from_slice(self.alloc, b"before")?;
+        let read = self.worktree.read_link(self.path, &mut buffer);
+        let target = BStr::new(buffer.as_slice());
+        match read {
+            Ok(()) => format!(in self.alloc; "to {target}"),
+            Err(fault) => format!(in self.alloc; "{fault}{target}"),
+        }
+    }
+}
 
 // Returns whether the calls on a path have these results.
 fn is_met<W: Worktree>(alloc: Global, worktree: &W, look: &Look<'_>) -> Result<bool, AllocError> {
     let (path, node, read, target) = *look;
-    let path = BStr::new(path);
-    let is_node = node_text(alloc, worktree, path)?.as_str() == node;
-    let is_read = read_text(alloc, worktree, path)?.as_str() == read;
-    Ok(is_node && is_read && target_text(alloc, worktree, path)?.as_str() == target)
+    let site = Site {
+        alloc,
+        worktree,
+        path: BStr::new(path),
+    };
+    let is_node = site.node()?.as_str() == node;
+    let is_read = site.first_read()?.as_str() == read;
+    Ok(is_node && is_read && site.target()?.as_str() == target)
 }
 
 // Asserts the results at these paths of a folder.

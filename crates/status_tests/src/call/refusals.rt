@@ -142,9 +142,13 @@ where
 {
     let alloc = rt.alloc();
     let collector = Recorder::new(alloc);
-    let mut full = Full { collector, room };
+    let mut full = Full {
+        collector,
+        room,
+        flag: None,
+    };
     let request = plain_request(alloc);
-    let answer = report_to(rt, alloc, index, worktree, &mut full, HashEq, request, None);
+    let answer = report_to(rt, index, worktree, &mut full, HashEq, request, None);
     StatusReport {
         records: full.collector.records,
         answer,
@@ -153,7 +157,7 @@ where
 
 #[test]
 fn a_collector_that_is_refused_memory_ends_the_status(rt: HostRuntime) -> Result<(), Fail> {
-    let changed = Says::Changed(BAR);
+    let changed = Says::Changed(b"bar");
     let all: [Wanted<'_>; 3] = [(0, "a", changed), (1, "b", changed), (2, "c", changed)];
     let nodes = [
         later_file("a", b"bar"),

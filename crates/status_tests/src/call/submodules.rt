@@ -79,31 +79,30 @@ fn is_failed(report: &StatusReport<'_, ObjectId, usize>, path: &str) -> bool {
 }
 
 // Returns whether the status of a folder with submodules, in pieces of one entry, has the report of its row.
-fn is_right<R: AllocGlobal + Files + Sync + Threads + Wait>(
+fn is_right<R: AllocGlobal + Threads + Wait>(
     rt: &R,
     system: &HostRuntime,
     root: &str,
     row: &Row,
 ) -> Result<bool, Fail> {
     let (adds, paths, entries, workers, verdict) = *row;
-    fill(rt, root, adds)?;
+    fill(system, root, adds)?;
     let mut submodules = Vec::new(rt.alloc());
     for path in paths {
-        submodules.push((*path, 0, Mode::Commit, FOO))?;
+        submodules.push((*path, 0, Mode::Commit, b"foo".as_slice()))?;
     }
     let superproject = index(rt.alloc(), &submodules)?;
     let own_index = foos(rt.alloc(), entries)?;
     let worktree = DiskWorktree::new(system, Path::new(root))?;
     let submodules = FolderSubmodules {
-        rt,
-        system,
+        rt: system,
         root,
         index: &own_index,
     };
     let options = by_pieces(1, Some(workers));
     let objects = MemoryObjects::new(rt.alloc());
     let request = StatusRequest::new(submodules, objects, AllPaths, NoFilter, options);
-    let report = status_of(rt, &superproject, &worktree, HashEq, request, None);
+    let report = status_of(rt, &superproject, &worktree, HashEq, request);
     let is_whole = is_taken(&report.answer, &found(paths.len()));
     Ok(match verdict {
         Verdict::Nothing => is_whole && report.records.is_empty(),
@@ -129,12 +128,12 @@ fn is_submodule_reported<R: AllocGlobal + Threads + Wait>(
     answer: Result<Option<u32>, &[u8]>,
 ) -> Result<bool, Fail> {
     let alloc = rt.alloc();
-    let index = index(alloc, &[("sub", 0, Mode::Commit, FOO)])?;
+    let index = index(alloc, &[("sub", 0, Mode::Commit, b"foo")])?;
     let directory = ("sub", NodeKind::Directory, b"".as_slice(), 0, Some(STAGED));
     let worktree = worktree(alloc, &[directory])?;
     let (submodule, objects) = (Alike { alloc, answer }, MemoryObjects::new(alloc));
     let request = StatusRequest::new(submodule, objects, AllPaths, NoFilter, options());
-    let report = status_of(rt, &index, &worktree, HashEq, request, None);
+    let report = status_of(rt, &index, &worktree, HashEq, request);
     let change = match report.records.as_slice() {
         [] => None,
         [record] if is_at(record, 0, "sub") => match &record.status {

@@ -6,7 +6,7 @@ use status_joined::index_as_worktree_with_renames::{Entry, Error, Outcome};
 use std::fmt::Debug;
 
 /// Returns a line for each record, in order: its index position or `-`, its summary or the change of a submodule, the status
-/// of an untracked file, and its path. A rename or a copy has both paths.
+/// of an untracked file, and its path. A rename or a copy has both paths, and says whether the file's id is null.
 pub fn lines_of<U: Debug>(
     alloc: Global,
     records: &[Entry<'_, ObjectId, U>],
@@ -36,7 +36,17 @@ fn line<U: Debug>(alloc: Global, record: &Entry<'_, ObjectId, U>) -> Result<Stri
         Entry::DirectoryContents { entry, .. } => {
             format!(in alloc; "- {word} {:?} {source}\n", entry.status)
         }
-        Entry::Rewrite { .. } => format!(in alloc; "- {word} {source} {destination}\n"),
+        Entry::Rewrite {
+            dirwalk_entry_id,
+            ..
+        } => {
+            let id = if dirwalk_entry_id.is_null() {
+                " null"
+            } else {
+                ""
+            };
+            format!(in alloc; "- {word} {source} {destination}{id}\n")
+        }
     }
 }
 

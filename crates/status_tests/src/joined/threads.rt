@@ -123,7 +123,7 @@ fn is_right<R: AllocGlobal + Threads + Wait>(rt: &R, row: &Row) -> Result<bool, 
     let (on_lstat, is_passed, rewrites, workers, lines, end) = *row;
     let alloc = rt.alloc();
     let (called, flag) = (AtomicBool::new(false), AtomicBool::new(false));
-    let index = index(alloc, &[A, ("e", 0, Mode::File, FOO)])?;
+    let index = index(alloc, &[A, foo_entry("e")])?;
     let worktree = WatchedWorktree {
         worktree: worktree(alloc, &[FILE_B, FILE_C])?,
         on_lstat,
@@ -141,7 +141,7 @@ fn is_right<R: AllocGlobal + Threads + Wait>(rt: &R, row: &Row) -> Result<bool, 
         options: options_of(rewrites, workers),
         interrupt: is_passed.then_some(&flag),
     };
-    let report = joined(rt, &index, &worktree, request);
+    let report = joined(rt, &index, &worktree, NoSubmodules, request);
     let found = lines_of(alloc, &report.records)?;
     let ended = end_of(alloc, &report.answer)?;
     Ok(found.as_str() == lines && ended.as_str() == end)
