@@ -182,7 +182,7 @@ fn errors_of_the_system_have_faults(rt: HostRuntime) {
 type Look<'a> = (&'a [u8], &'a str, &'a str, &'a str);
 
 // A path of a worktree.
-#[derive(Clone, Copy)]
+#[derive(Drop)]
 struct Site<'a, W> {
     alloc: Global,
     worktree: &'a W,

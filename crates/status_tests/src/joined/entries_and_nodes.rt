@@ -30,7 +30,7 @@ const UNSET: Row<'static> = Row {
     nodes: &[("a", File, b"foo", 3, Some(STAGED)), FILE_B, FILE_C],
     flag: Some(false),
     lines: "- Added Untracked b\n- Added Untracked c\n",
-    end: "2 nodes",
+    end: "cut None, walk Some((2, false)), pairs None",
     ..PLAIN
 };
 
@@ -44,7 +44,7 @@ static WALKED: [Row; 4] = [
             ("p", Other, b"", 0, Some(STAGED)),
         ],
         lines: "0 Removed a\n- Added Untracked b\n- Added Untracked c/d\n",
-        end: "3 nodes",
+        end: "cut None, walk Some((3, false)), pairs None",
         ..PLAIN
     },
     // Nothing in a submodule is walked. It reports a change of the caller's type.
@@ -53,7 +53,7 @@ static WALKED: [Row; 4] = [
         nodes: &[("sub/x", File, b"foo", 3, Some(STAGED))],
         submodules: Some(7),
         lines: "0 7 sub\n",
-        end: "0 nodes",
+        end: "cut None, walk Some((0, false)), pairs None",
         ..PLAIN
     },
     UNSET,
@@ -61,7 +61,7 @@ static WALKED: [Row; 4] = [
     Row {
         flag: Some(true),
         lines: "- Added Untracked b\n",
-        end: "cut after 0, 0; 1 nodes, cancelled",
+        end: "cut Some((0, 0)), walk Some((1, true)), pairs None",
         ..UNSET
     },
 ];
@@ -71,7 +71,7 @@ const BACKWARDS: Row<'static> = Row {
     entries: &[A, ("c", 0, Mode::File, b"foo")],
     found: &[B, FOUND_A],
     lines: "0 Removed a\n- Added Untracked a\n- Added Untracked b\n1 Removed c\n",
-    end: "2 nodes",
+    end: "cut None, walk Some((2, false)), pairs None",
     ..PLAIN
 };
 
@@ -100,7 +100,7 @@ static ROWS: [Row; 7] = [
         nodes: &[("a", File, b"foo", 3, Some(LATER))],
         found: &[IGNORED],
         lines: "0 none a\n- none Ignored b\n",
-        end: "1 nodes",
+        end: "cut None, walk Some((1, false)), pairs None",
         ..PLAIN
     },
     // The walk sees the flag when it passes its first node, even if that one is dropped.
@@ -108,7 +108,7 @@ static ROWS: [Row; 7] = [
         entries: &[A],
         found: &[TRACKED, C],
         flag: Some(true),
-        end: "cut after 0, 0; 1 nodes, cancelled",
+        end: "cut Some((0, 0)), walk Some((1, true)), pairs None",
         ..PLAIN
     },
     // No walk, id or tracker is called if it isn't wanted.
@@ -118,13 +118,13 @@ static ROWS: [Row; 7] = [
         walk_fault: None,
         dirwalk: true,
         lines: "0 Removed a\n- Added Untracked b\n",
-        end: "1 nodes",
+        end: "cut None, walk Some((1, false)), pairs None",
         ..UNWALKED
     },
     Row {
         pairs: &[],
         rewrites: RENAMES,
-        end: "; 0 renames, 0 copies",
+        end: "cut None, walk None, pairs Some((0, 0))",
         ..UNWALKED
     },
 ];

@@ -50,26 +50,26 @@ fn line<U: Debug>(alloc: Global, record: &Entry<'_, ObjectId, U>) -> Result<Stri
     }
 }
 
-/// Returns the line of a call's result: how many entries were processed, if the call was interrupted, how many nodes the
-/// walk passed, if there was one, and how many renames and copies there are, if they were searched for; or the error.
+/// Returns the line of a call's result: how many entries were processed and how often `lstat` was called on one, if the
+/// call was interrupted; how many nodes the walk passed, and whether it was cancelled; how many renames and copies there
+/// are. Or the error.
 pub fn end_of(alloc: Global, answer: &Result<Outcome, Error>) -> Result<String, AllocError> {
     let outcome = match answer {
         Ok(outcome) => outcome,
         Err(error) => return format!(in alloc; "{error:?}"),
     };
-    let mut text = String::new(alloc);
     let tracked = &outcome.tracked_file_modification;
-    if tracked.interrupted {
-        let (processed, lstats) = (tracked.entries_processed, tracked.symlink_metadata_calls);
-        text.push_str(&format!(in alloc; "cut after {processed}, {lstats}; ")?)?;
-    }
-    if let Some(walk) = &outcome.dirwalk {
-        let end = if walk.cancelled { ", cancelled" } else { "" };
-        text.push_str(&format!(in alloc; "{} nodes{end}", walk.emitted)?)?;
-    }
-    if let Some(pairs) = &outcome.rewrites {
-        let (renames, copies) = (pairs.renames, pairs.copies);
-        text.push_str(&format!(in alloc; "; {renames} renames, {copies} copies")?)?;
-    }
-    Ok(text)
+    let lstats = tracked.symlink_metadata_calls;
+    let cut = tracked
+        .interrupted
+        .then_some((tracked.entries_processed, lstats));
+    let walk = match &outcome.dirwalk {
+        Some(walk) => Some((walk.emitted, walk.cancelled)),
+        None => None,
+    };
+    let pairs = match &outcome.rewrites {
+        Some(pairs) => Some((pairs.renames, pairs.copies)),
+        None => None,
+    };
+    format!(in alloc; "cut {cut:?}, walk {walk:?}, pairs {pairs:?}")
 }

@@ -20,7 +20,7 @@ const MODIFIED: Row<'static> = Row {
 const COPIED: Row<'static> = Row {
     pairs: &[Copied(0, 1)],
     lines: "0 Modified a\n- Copied a b\n",
-    end: "1 nodes; 0 renames, 1 copies",
+    end: "cut None, walk Some((1, false)), pairs Some((0, 1))",
     ..MODIFIED
 };
 
@@ -41,7 +41,7 @@ static ROWS: [Row; 8] = [
     Row {
         pairs: &[Renamed(0, 2)],
         lines: "1 Removed b\n- Renamed a c\n",
-        end: "1 nodes; 1 renames, 0 copies",
+        end: "cut None, walk Some((1, false)), pairs Some((1, 0))",
         ..GONE
     },
     COPIED,
@@ -54,7 +54,7 @@ static ROWS: [Row; 8] = [
     Row {
         faults: LOCKED,
         lines: "0 Modified a\n- Added Untracked b\n",
-        end: "1 nodes; 0 renames, 0 copies",
+        end: "cut None, walk Some((1, false)), pairs Some((0, 0))",
         ..MODIFIED
     },
     // Another fault is an error, and nothing is reported.

@@ -56,11 +56,20 @@ pub const PLAIN: Row<'static> = Row {
     rewrites: None,
     flag: None,
     lines: "",
-    end: "",
+    end: "cut None, walk None, pairs None",
 };
 
 /// Renames and copies, except those of empty files.
 pub const RENAMES: Option<Rewrites> = Some(Rewrites { track_empty: false });
+
+fn options_of(row: &Row<'_>) -> Options {
+    let mut options = options(row.rewrites);
+    if !row.sorted {
+        options.sorting = None;
+    }
+    options.dirwalk = row.dirwalk;
+    options
+}
 
 // Returns whether the call has the report of a row, over any worktree with any walk.
 fn is_reported<R: AllocGlobal + Threads + Wait, W: Worktree + Sync, K: Walk<W> + Send + Drop>(
@@ -73,18 +82,14 @@ where
     W::File: Send,
 {
     let (alloc, flag) = (rt.alloc(), AtomicBool::new(row.flag == Some(true)));
-    let (index, usual) = (index(alloc, row.entries)?, options(row.rewrites));
+    let index = index(alloc, row.entries)?;
     let request = JoinedRequest {
         walk,
         tracker: Answers {
             alloc,
             pairs: row.pairs,
         },
-        options: Options {
-            sorting: if row.sorted { usual.sorting } else { None },
-            dirwalk: row.dirwalk,
-            ..usual
-        },
+        options: options_of(row),
         interrupt: row.flag.is_some().then_some(&flag),
     };
     let submodules = Alike {
