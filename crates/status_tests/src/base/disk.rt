@@ -63,6 +63,14 @@ fn all_of_a_file_is_reported(rt: HostRuntime) -> Result<(), Fail> {
     Ok(())
 }
 
+/// A name so long that the path of its file takes memory.
+const LONG: &str = concat!(
+    "nnnnnnnnnnnnnnnnnnnnnnnnnnnnnnnnnnnnnnnnnnnnnnnnnnnnnnnnnnnnnn",
+    "nnnnnnnnnnnnnnnnnnnnnnnnnnnnnnnnnnnnnnnnnnnnnnnnnnnnnnnnnnnnnn",
+    "nnnnnnnnnnnnnnnnnnnnnnnnnnnnnnnnnnnnnnnnnnnnnnnnnnnnnnnnnnnnnn",
+    "nnnnnnnnnnnnnnnnnnnnnnnnnnnnnnnnnnnnnnnnnnnnnnnnnnnnnnnnnnnnnn",
+);
+
 // Returns the results at a path where each call fails by a fault with this text.
 fn nothing<'a>(path: &'a [u8], fault: &'a str) -> Look<'a> {
     (path, fault, fault, fault)
@@ -76,12 +84,14 @@ fn nodes_and_faults_are_named(rt: HostRuntime) -> Result<(), Fail> {
         ("l", Link("a")),
         ("d", Folder),
         (name, File("x")),
+        (LONG, File("foo")),
         ("loop", Link("loop")),
         ("dangling", Link("gone")),
     ];
     let looks = [
         (b"a".as_slice(), "File of 3", "3 bytes", "other 0"),
         (name.as_bytes(), "File of 1", "1 bytes", "other 0"),
+        (LONG.as_bytes(), "File of 3", "3 bytes", "other 0"),
         (b"l", "Link of 1", "3 bytes", "to a"),
         // The system opens a directory, and then refuses to read it.
         (b"d", "Directory", "unread, other 0", "other 0"),
@@ -110,22 +120,13 @@ fn nodes_and_faults_are_named(rt: HostRuntime) -> Result<(), Fail> {
     )
 }
 
-// The path is longer than one for which no memory is taken.
-#[test]
-fn long_paths_lead_below_the_folder(rt: HostRuntime) -> Result<(), Fail> {
-    let mut name = String::new(rt.alloc());
-    for _ in 0..15 {
-        name.push_str("long name_")?;
-    }
-    let path = within(&rt, name.as_str(), name.as_str())?;
-    let nodes = [(name.as_str(), Folder), (path.as_str(), File("foo"))];
-    let look = (path.as_str().as_bytes(), "File of 3", "3 bytes", "other 0");
-    let folder = own_folder(&rt, "long_paths")?;
-    fill(&rt, folder.as_str(), &nodes)?;
-    assert_looks(&rt, folder.as_str(), &[look])?;
-    fs::remove_dir_all(&rt, folder.as_str())?;
-    Ok(())
-}
+static LOCKED: [(&str, FolderNode); 5] = [
+    ("a", File("foo")),
+    ("d", Folder),
+    ("d/b", File("bar")),
+    ("a", Mode(0)),
+    ("d", Mode(0)),
+];
 
 // Asserts the results for a file and a folder that may not be read. The system lets root read everything, so root gets
 // no fault, unless that right was taken away.
@@ -133,23 +134,18 @@ fn assert_locked<R: Files + AllocGlobal + Abort>(rt: &R, folder: &str) -> Result
 where
     R::File: Drop,
 {
-    let nodes = [
-        ("a", File("foo")),
-        ("d", Folder),
-        ("d/b", File("bar")),
-        ("a", Mode(0)),
-        ("d", Mode(0)),
-    ];
-    fill(rt, folder, &nodes)?;
+    fill(rt, folder, &LOCKED)?;
     let (path, denied) = (within(rt, folder, "d/b")?, "permission denied");
-    let (node, read, target) = match fs::symlink_metadata(rt, path.as_str()) {
-        Ok(_) => ("File of 3", "3 bytes", "other 0"),
-        Err(_) => (denied, denied, denied),
+    let looks: [Look<'_>; 2] = match fs::symlink_metadata(rt, path.as_str()) {
+        Ok(_) => [
+            (b"a", "File of 3", "3 bytes", "other 0"),
+            (b"d/b", "File of 3", "3 bytes", "other 0"),
+        ],
+        Err(_) => [
+            (b"a", "File of 3", denied, "other 0"),
+            (b"d/b", denied, denied, denied),
+        ],
     };
-    let looks = [
-        (b"a".as_slice(), "File of 3", read, "other 0"),
-        (b"d/b", node, read, target),
-    ];
     assert_looks(rt, folder, &looks)
 }
 

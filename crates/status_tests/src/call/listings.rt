@@ -5,8 +5,7 @@ use crate::support::inputs::LISTED_FILE;
 use crate::support::prelude::*;
 use crate::support::side_effects::CountingLister;
 use gix_status::fscache::Stat;
-use gix_status::index_as_worktree::{Capabilities, Error, Options, Outcome};
-use gix_status::worktree::Point;
+use gix_status::index_as_worktree::{Capabilities, Options, Outcome};
 use status_callers::listers::{Directories, Directory};
 use status_callers::statuses::{options, status_without_threads};
 
@@ -135,16 +134,12 @@ fn listings_replace_lstat(rt: HostRuntime) -> Result<(), Fail> {
 /// The directory `d` lists two files.
 const TWO_FILES: [Directory<'static>; 1] = [("d", Some(&[("x", LISTED_FILE), ("y", LISTED_FILE)]))];
 
-/// Returns how often a status calls the lister, with three entries in `d`, one of which is gone. It has
-/// to report that one, or to fail if `lstat` of `d` is interrupted, and has to call `lstat` on `d` once.
-fn lists(alloc: Global, fscache: bool, interrupted: bool) -> Result<Option<usize>, Fail> {
+/// Returns how often a status calls the lister, with three entries in `d`, one of which is gone. None if it doesn't
+/// report that one, or doesn't call `lstat` on `d` once.
+fn lists(alloc: Global, fscache: bool) -> Result<Option<usize>, Fail> {
     let index = foos(alloc, &["d/gone", "d/x", "d/y"])?;
-    let mut files = worktree(alloc, &NODES)?;
-    if interrupted {
-        files.plant(BStr::from("d"), Point::Lstat, Fault::Interrupted)?;
-    }
     let (calls, lists) = (Calls::new(), AtomicUsize::new(0));
-    let worktree = counted(files, "d", &calls);
+    let worktree = counted(worktree(alloc, &NODES)?, "d", &calls);
     let directories = &TWO_FILES;
     let lister = CountingLister {
         lister: Directories { alloc, directories },
@@ -152,26 +147,18 @@ fn lists(alloc: Global, fscache: bool, interrupted: bool) -> Result<Option<usize
         refuses: None,
     };
     let options = Options {
-        fscache,
         chunk_size: 1,
-        ..options()
+        ..options_by(false, fscache)
     };
     let report = status_without_threads(alloc, &index, &worktree, lister, options);
-    let is_reported = match &report.answer {
-        Ok(_) => !interrupted && report.records.len() == 1,
-        Err(Error::Io(Fault::Interrupted)) => interrupted && report.records.is_empty(),
-        Err(_) => false,
-    };
-    let is_right = is_reported && calls.made() == (1, 0);
+    let is_right = report.answer.is_ok() && report.records.len() == 1 && calls.made() == (1, 0);
     Ok(is_right.then_some(lists.load(Ordering::SeqCst)))
 }
 
 #[test]
 fn one_lstat_and_one_listing_of_a_directory_serve_its_entries(rt: HostRuntime) -> Result<(), Fail> {
-    assert_eq!(rt; lists(rt.alloc(), true, false)?, Some(1));
+    assert_eq!(rt; lists(rt.alloc(), true)?, Some(1));
     // Without the option the lister isn't called.
-    assert_eq!(rt; lists(rt.alloc(), false, false)?, Some(0));
-    // An `lstat` that is interrupted isn't made again.
-    assert_eq!(rt; lists(rt.alloc(), false, true)?, Some(0));
+    assert_eq!(rt; lists(rt.alloc(), false)?, Some(0));
     Ok(())
 }

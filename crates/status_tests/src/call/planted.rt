@@ -140,27 +140,30 @@ fn is_expected<R: AllocGlobal + Threads + Wait>(
 /// removed, the status is that without a fault.
 fn is_right_at<R: AllocGlobal + Threads + Wait>(
     rt: &R,
+    index: &State,
+    worktree: &mut MemoryWorktree,
     path: &'static str,
     point: Point,
 ) -> Result<bool, Fail> {
-    let (index, mut worktree) = (entries(rt.alloc())?, nodes(rt.alloc())?);
     for fault in FAULTS {
         worktree.plant(BStr::from(path), point, fault)?;
-        if !is_expected(rt, &index, &worktree, Some((path, point, fault)))? {
+        if !is_expected(rt, index, worktree, Some((path, point, fault)))? {
             return Ok(false);
         }
     }
     worktree.clear(BStr::from(path));
-    is_expected(rt, &index, &worktree, None)
+    is_expected(rt, index, worktree, None)
 }
 
 #[test]
 fn each_fault_at_each_call_ends_the_status_or_removes_an_entry(
     rt: HostRuntime,
 ) -> Result<(), Fail> {
+    let (index, mut worktree) = (entries(rt.alloc())?, nodes(rt.alloc())?);
     for path in ["a", FOLDER, "d/l", "z"] {
         for point in POINTS {
-            assert!(rt; is_right_at(&rt, path, point)?, "{point:?} of {path}");
+            let is_right = is_right_at(&rt, &index, &mut worktree, path, point)?;
+            assert!(rt; is_right, "{point:?} of {path}");
         }
     }
     Ok(())

@@ -4,7 +4,7 @@ use crate::call::reports::{found, is_changed, is_report};
 use crate::support::prelude::*;
 use gix_status::index::{HashKind, compute_hash};
 use gix_status::index_as_worktree::traits::FastEq;
-use gix_status::index_as_worktree::{Error, Outcome};
+use gix_status::index_as_worktree::{Error, Outcome, Record};
 use gix_status::worktree::{Find, FindError};
 use status_callers::comparers::BlobLength;
 use status_callers::objects::FolderObjects;
@@ -32,6 +32,30 @@ const ENTRIES: [EntryRow<'static>; 2] = [
     ("b", 0, Mode::File, b"bar"),
 ];
 
+// Returns whether these are so many records, each of a file of four bytes.
+fn are_lengths(records: &[Record<'_, u64, ()>], count: usize) -> bool {
+    for (at, record) in records.iter().enumerate() {
+        if record.entry_index != at || !is_changed(&record.status, &4) {
+            return false;
+        }
+    }
+    records.len() == count
+}
+
+// Returns whether a status read the blob of each entry, of three bytes, or failed because a blob is missing.
+fn is_ended(answer: &Result<Outcome, Error>, entries: usize, is_missing: bool) -> bool {
+    let wanted = Outcome {
+        odb_objects_read: entries,
+        odb_bytes: (entries as u64).saturating_mul(3),
+        ..found(entries)
+    };
+    match answer {
+        Ok(outcome) => !is_missing && *outcome == wanted,
+        Err(Error::Find(FindError::Missing)) => is_missing,
+        Err(_) => false,
+    }
+}
+
 /// Returns whether a status by the lengths of blobs has so many records, each of a file of four bytes. It reads the
 /// blob of each entry, of three bytes, or fails because a blob is missing.
 fn has_lengths<R: AllocGlobal + Threads + Wait, O: Find + Send>(
@@ -46,22 +70,8 @@ fn has_lengths<R: AllocGlobal + Threads + Wait, O: Find + Send>(
     let worktree = worktree(rt.alloc(), &nodes)?;
     let request = StatusRequest::new(NoSubmodules, objects, AllPaths, NoFilter, options());
     let report = status_of(rt, &index, &worktree, BlobLength, request);
-    for (at, record) in report.records.iter().enumerate() {
-        if record.entry_index != at || !is_changed(&record.status, &4) {
-            return Ok(false);
-        }
-    }
-    let wanted = Outcome {
-        odb_objects_read: entries.len(),
-        odb_bytes: (entries.len() as u64).saturating_mul(3),
-        ..found(entries.len())
-    };
-    let is_ended = match &report.answer {
-        Ok(outcome) => !is_missing && *outcome == wanted,
-        Err(Error::Find(FindError::Missing)) => is_missing,
-        Err(_) => false,
-    };
-    Ok(is_ended && report.records.len() == records)
+    let is_ended = is_ended(&report.answer, entries.len(), is_missing);
+    Ok(is_ended && are_lengths(&report.records, records))
 }
 
 #[test]

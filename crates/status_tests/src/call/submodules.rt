@@ -121,41 +121,52 @@ fn submodules_may_have_statuses_of_their_own(rt: HostRuntime) -> Result<(), Fail
     Ok(())
 }
 
-/// Returns whether a status by ids of the submodule `sub` reports the result of that interface: no change, a number, or
-/// a fault with a text.
-fn is_submodule_reported<R: AllocGlobal + Threads + Wait>(
-    rt: &R,
+// Returns whether a status reports the result of an interface for `sub`: no change, a number, or a fault with a text.
+fn is_reported(
+    report: &StatusReport<'_, ObjectId, u32>,
     answer: Result<Option<u32>, &[u8]>,
-) -> Result<bool, Fail> {
-    let alloc = rt.alloc();
-    let index = index(alloc, &[("sub", 0, Mode::Commit, b"foo")])?;
-    let directory = ("sub", NodeKind::Directory, b"".as_slice(), 0, Some(STAGED));
-    let worktree = worktree(alloc, &[directory])?;
-    let (submodule, objects) = (Alike { alloc, answer }, MemoryObjects::new(alloc));
-    let request = StatusRequest::new(submodule, objects, AllPaths, NoFilter, options());
-    let report = status_of(rt, &index, &worktree, HashEq, request);
+) -> bool {
     let change = match report.records.as_slice() {
         [] => None,
         [record] if is_at(record, 0, "sub") => match &record.status {
             EntryStatus::Change(Change::SubmoduleModification(found)) => Some(*found),
-            _ => return Ok(false),
+            _ => return false,
         },
-        _ => return Ok(false),
+        _ => return false,
     };
-    Ok(match (answer, &report.answer) {
+    match (answer, &report.answer) {
         (Ok(wanted), _) => is_taken(&report.answer, &found(1)) && change == wanted,
         (Err(wanted), Err(Error::SubmoduleStatus { rela_path, text })) => {
             let is_at_sub = rela_path.as_bytes() == b"sub".as_slice();
             change.is_none() && is_at_sub && text.as_bytes() == wanted
         }
         _ => false,
-    })
+    }
+}
+
+/// Returns whether a status by ids of the submodule `sub` reports the result of this interface.
+fn is_submodule_reported<R: AllocGlobal + Threads + Wait>(
+    rt: &R,
+    submodule: Alike<'_>,
+) -> Result<bool, Fail> {
+    let (alloc, answer) = (rt.alloc(), submodule.answer);
+    let index = index(alloc, &[("sub", 0, Mode::Commit, b"foo")])?;
+    let directory = ("sub", NodeKind::Directory, b"".as_slice(), 0, Some(STAGED));
+    let worktree = worktree(alloc, &[directory])?;
+    let objects = MemoryObjects::new(alloc);
+    let request = StatusRequest::new(submodule, objects, AllPaths, NoFilter, options());
+    let report = status_of(rt, &index, &worktree, HashEq, request);
+    Ok(is_reported(&report, answer))
 }
 
 #[test]
 fn a_submodule_has_the_status_that_the_interface_returns(rt: HostRuntime) -> Result<(), Fail> {
-    assert!(rt; is_submodule_reported(&rt, Ok(None))?);
-    assert!(rt; is_submodule_reported(&rt, Ok(Some(7)))?);
-    assert!(rt; is_submodule_reported(&rt, Err(b"x"))?);
+    let alloc = rt.alloc();
+    for answer in [Ok(None), Ok(Some(7)), Err(b"x".as_slice())] {
+        assert!(rt;
+            is_submodule_reported(&rt, Alike { alloc, answer })?,
+            "{answer:?}"
+        );
+    }
     Ok(())
 }
