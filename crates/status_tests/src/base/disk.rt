@@ -25,41 +25,50 @@ fn is_file(found: &Metadata, stamp: Option<Time>) -> bool {
     is_plain && found.mtime == found.ctime && found.to_stat() == stat
 }
 
-#[test]
-fn all_of_a_file_is_reported(rt: HostRuntime) -> Result<(), Fail> {
-    let early = Duration::from_secs(5) + Duration::from_nanos(7);
-    let last = Duration::from_secs(4294967295);
-    let folder = own_folder(&rt, "all_of_a_file")?;
+// Returns whether an executable file that was last changed then is reported with this time.
+fn is_stamped<R: Files + AllocGlobal>(
+    rt: &R,
+    folder: &str,
+    changed: Duration,
+    stamp: Option<Time>,
+) -> Result<bool, Fail>
+where
+    R::File: Drop,
+{
     let nodes = [
         ("a", File("foo")),
-        ("a", Changed(early)),
+        ("a", Changed(changed)),
         ("a", Mode(0o755)),
-        ("late", File("foo")),
-        ("late", Changed(last)),
-        ("later", File("foo")),
-        ("later", Changed(last + Duration::from_secs(1))),
     ];
-    fill(&rt, folder.as_str(), &nodes)?;
-    let worktree = DiskWorktree::new(&rt, Path::new(folder.as_str()))?;
-    for (path, stamp) in [
-        ("a", Some(Time { secs: 5, nsecs: 7 })),
-        (
-            "late",
-            Some(Time {
-                secs: 4294967295,
-                nsecs: 0,
-            }),
-        ),
-        ("later", None),
+    fill(rt, folder, &nodes)?;
+    let worktree = DiskWorktree::new(rt, Path::new(folder))?;
+    Ok(is_file(&worktree.lstat(BStr::from("a"))?, stamp))
+}
+
+#[test]
+fn all_of_a_file_is_reported(rt: HostRuntime) -> Result<(), Fail> {
+    let folder = own_folder(&rt, "all_of_a_file")?;
+    let (early, last) = (
+        Time { secs: 5, nsecs: 7 },
+        Time {
+            secs: u32::MAX,
+            nsecs: 0,
+        },
+    );
+    for (nanoseconds, stamp) in [
+        (5_000_000_007, Some(early)),
+        (4_294_967_295_000_000_000, Some(last)),
+        (4_294_967_296_000_000_000, None),
     ] {
+        let changed = Duration::from_nanos(nanoseconds);
         assert!(rt;
-            is_file(&worktree.lstat(BStr::from(path))?, stamp),
-            "{path}"
+            is_stamped(&rt, folder.as_str(), changed, stamp)?,
+            "{nanoseconds}"
         );
     }
+    fs::remove_dir_all(&rt, folder.as_str())?;
     let untimed = StatFields::Portable.metadata_of(&fs::Metadata::of_file(3));
     assert!(rt; is_file(&untimed, None));
-    fs::remove_dir_all(&rt, folder.as_str())?;
     Ok(())
 }
 

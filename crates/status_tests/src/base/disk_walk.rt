@@ -7,7 +7,7 @@ use crate::support::prelude::*;
 use FolderNode::{File, Folder, Link};
 use gix_status::worktree::Point;
 use status_base::worktree::Prefix;
-use status_walk::{Action, Delegate, DirEntry, DiskWalk, Status, Walk, WalkError};
+use status_walk::{Action, Delegate, DirEntry, DiskWalk, Outcome, Status, Walk, WalkError};
 use std::{fs, io};
 
 // Writes a line for each node, and ends the walk with the last that it has room for.
@@ -56,6 +56,18 @@ impl Delegate for Lines {
 // passes, and one for how it ends.
 type Case<'a> = (&'a str, usize, &'a str);
 
+// Returns the line for how a walk ends.
+fn end_of(alloc: Global, end: &Result<Outcome, WalkError>) -> Result<String, AllocError> {
+    match end {
+        Ok(outcome) if outcome.cancelled => {
+            format!(in alloc; "cancelled at {}\n", outcome.emitted)
+        }
+        Ok(outcome) => format!(in alloc; "all {}\n", outcome.emitted),
+        Err(WalkError::Fault { rela_path, fault }) => format!(in alloc; "{rela_path}: {fault}\n"),
+        Err(WalkError::Memory) => Err(AllocError),
+    }
+}
+
 // Asserts the lines of a walk over a folder, which uses a worktree's `lstat`, with an index of these entries.
 fn assert_walk<R: Files + AllocGlobal + Abort, W: Worktree>(
     rt: &R,
@@ -69,16 +81,8 @@ fn assert_walk<R: Files + AllocGlobal + Abort, W: Worktree>(
     let mut lines = Lines::new(alloc, room);
     let mut walk = DiskWalk::new(rt, Path::new(root))?;
     let pathspec = Prefix::new(alloc, BStr::from(below))?;
-    let end = match walk.walk(worktree, &index, &pathspec, &mut lines) {
-        Ok(outcome) if outcome.cancelled => format!(in alloc;
-            "cancelled at {}\n",
-            outcome.emitted
-        )?,
-        Ok(outcome) => format!(in alloc; "all {}\n", outcome.emitted)?,
-        Err(WalkError::Fault { rela_path, fault }) => format!(in alloc; "{rela_path}: {fault}\n")?,
-        Err(WalkError::Memory) => return Err(Fail::from(AllocError)),
-    };
-    lines.text.push_str(end.as_str())?;
+    let end = walk.walk(worktree, &index, &pathspec, &mut lines);
+    lines.text.push_str(end_of(alloc, &end)?.as_str())?;
     assert_eq!(rt; lines.text.as_str(), found);
     Ok(())
 }

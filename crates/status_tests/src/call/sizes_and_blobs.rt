@@ -90,21 +90,17 @@ fn blobs_may_lie_in_a_folder(rt: HostRuntime) -> Result<(), Fail> {
     let root = folder.as_str();
     let foo = "19102815663d23f8b75a47e7a01965dcdc96468c";
     fill(&rt, root, &[(foo, FolderNode::File("foo"))])?;
-    let nowhere = FolderObjects {
-        rt: &rt,
-        folder: "/no/such/folder",
-    };
     let objects = FolderObjects {
         rt: &rt,
         folder: root,
     };
-    assert!(rt; has_lengths(&rt, &ENTRIES, nowhere, 0, true)?);
     assert!(rt; has_lengths(&rt, &ENTRIES[..1], objects, 1, false)?);
-    assert!(rt; has_lengths(&rt, &ENTRIES, objects, 1, true)?);
-    // A directory can't be read as a blob. The interface has no other error for that.
+    // A directory can't be read as a blob. The interface has no other error for that, or for a file that isn't there.
     let bar = "ba0e162e1c47469e3fe4b393a8bf8c569f302116";
-    fill(&rt, root, &[(bar, FolderNode::Folder)])?;
-    assert!(rt; has_lengths(&rt, &ENTRIES, objects, 1, true)?);
+    for nodes in [[].as_slice(), &[(bar, FolderNode::Folder)]] {
+        fill(&rt, root, nodes)?;
+        assert!(rt; has_lengths(&rt, &ENTRIES, objects, 1, true)?);
+    }
     fs::remove_dir_all(&rt, root)?;
     Ok(())
 }

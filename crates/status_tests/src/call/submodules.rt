@@ -78,6 +78,15 @@ fn is_failed(report: &StatusReport<'_, ObjectId, usize>, path: &str) -> bool {
     }
 }
 
+fn is_judged(report: &StatusReport<'_, ObjectId, usize>, entries: usize, verdict: Verdict) -> bool {
+    let is_whole = is_taken(&report.answer, &found(entries));
+    match verdict {
+        Verdict::Nothing => is_whole && report.records.is_empty(),
+        Verdict::Changed(at, count) => is_whole && is_changed(report, at, count),
+        Verdict::Fails => report.records.is_empty() && is_failed(report, "sub"),
+    }
+}
+
 // Returns whether the status of a folder with submodules, in pieces of one entry, has the report of its row.
 fn is_right<R: AllocGlobal + Threads + Wait>(
     rt: &R,
@@ -103,12 +112,7 @@ fn is_right<R: AllocGlobal + Threads + Wait>(
     let objects = MemoryObjects::new(rt.alloc());
     let request = StatusRequest::new(submodules, objects, AllPaths, NoFilter, options);
     let report = status_of(rt, &superproject, &worktree, HashEq, request);
-    let is_whole = is_taken(&report.answer, &found(paths.len()));
-    Ok(match verdict {
-        Verdict::Nothing => is_whole && report.records.is_empty(),
-        Verdict::Changed(at, count) => is_whole && is_changed(&report, at, count),
-        Verdict::Fails => report.records.is_empty() && is_failed(&report, "sub"),
-    })
+    Ok(is_judged(&report, paths.len(), verdict))
 }
 
 #[test]
