@@ -1,6 +1,6 @@
 //! The joined call over a folder of the disk.
 
-use crate::joined::record_lines::lines_of;
+use crate::joined::record_lines::{end_of, lines_of};
 use crate::support::prelude::*;
 use status_callers::joined::statuses::{JoinedRequest, joined};
 use status_rewrites::{IdentityTracker, Rewrites};
@@ -15,24 +15,29 @@ const NODES: [(&str, FolderNode<'static>); 4] = [
     ("d/l", FolderNode::Link("c")),
 ];
 
-/// The content of the entry `a`, whether empty files are renamed, and the lines of the report.
-type Row = (&'static [u8], bool, &'static str);
+/// The content of the entry `a`, whether empty files are renamed, the lines of the report, and how the call ends.
+type Row = (&'static [u8], bool, &'static str, &'static str);
+
+const ONE_RENAME: &str = "cut None, walk Some((3, false)), pairs Some((1, 0))";
 
 static ROWS: [Row; 3] = [
     (
         b"foo",
         false,
         "- Added Untracked c\n- Renamed a d/b\n- Added Untracked d/l\n",
+        ONE_RENAME,
     ),
     (
         b"",
         false,
         "0 Removed a\n- Added Untracked c\n- Added Untracked d/b\n- Added Untracked d/l\n",
+        "cut None, walk Some((3, false)), pairs Some((0, 0))",
     ),
     (
         b"",
         true,
         "- Renamed a c\n- Added Untracked d/b\n- Added Untracked d/l\n",
+        ONE_RENAME,
     ),
 ];
 
@@ -46,7 +51,7 @@ where
     R::File: Send,
     R::Dir: Send,
 {
-    let (content, track_empty, lines) = *row;
+    let (content, track_empty, lines, end) = *row;
     let alloc = rt.alloc();
     let index = index(alloc, &[("a", 0, Mode::File, content)])?;
     let worktree = DiskWorktree::new(rt, Path::new(root))?;
@@ -56,7 +61,7 @@ where
     let report = joined(rt, &index, &worktree, NoSubmodules, request);
     let text = lines_of(alloc, &report.records)?;
     assert_eq!(rt; text.as_str(), lines);
-    assert!(rt; report.answer.is_ok());
+    assert_eq!(rt; end_of(alloc, &report.answer)?.as_str(), end);
     Ok(())
 }
 
