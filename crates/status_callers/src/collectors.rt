@@ -1,4 +1,4 @@
-//! A collector that runs out of memory.
+//! A collector that runs out of memory or sets a flag.
 
 ghost use Rattle.std.specs.Prelude.{◌≡◌, ◌++◌, ◌∷◌, [], Some, OnOk, OnErr, slice_get};
 ghost use Rattle.bstr.specs.BStr.{bstr_bytes};
@@ -7,15 +7,32 @@ use bstr::BStr;
 use gix_status::index::Entry;
 use gix_status::index_as_worktree::{EntryStatus, VisitEntry};
 use std::alloc::AllocError;
+use std::sync::atomic::{AtomicBool, Ordering};
 
-/// Passes `room` records on to `collector`, and returns out of memory for the next.
+/// Passes `room` records on to `collector`, and returns out of memory for the next. At each it sets its flag, if it has
+/// one.
 #[derive(Drop)]
-pub struct Full<V> {
+pub struct Full<'a, V> {
     pub collector: V,
     pub room: usize,
+    pub flag: Option<&'a AtomicBool>,
 }
 
-impl<'index, V: VisitEntry<'index>> VisitEntry<'index> for Full<V>
+impl<'a, V> Full<'a, V> {
+    /// Sets the flag, and takes the room of a record. Returns whether there was room.
+    pub fn admits(&mut self) -> bool
+        ensures { self.new.collector ≡ self.old.collector }
+    {
+        if let Some(flag) = self.flag {
+            flag.store(true, Ordering::SeqCst);
+        }
+        let has_room = self.room > 0;
+        self.room = self.room.saturating_sub(1);
+        has_room
+    }
+}
+
+impl<'index, 'a, V: VisitEntry<'index>> VisitEntry<'index> for Full<'a, V>
 where
     V::ContentChange: Drop,
     V::SubmoduleStatus: Drop,
@@ -42,10 +59,9 @@ where
         ensures ok { OnOk result (V.visits self.new.collector ≡ V.visits self.old.collector ++ visit entries.now entry.now entry_index (bstr_bytes rela_path.entry) status ∷ []) }
         ensures err { OnErr result (V.visits self.new.collector ≡ V.visits self.old.collector) }
     {
-        if self.room == 0 {
+        if !self.admits() {
             return Err(AllocError);
         }
-        self.room -= 1;
         self.collector
             .visit_entry(entries, entry, entry_index, rela_path, status)
     }

@@ -1,34 +1,22 @@
 //! An object database as a caller writes it.
 
-ghost use Rattle.std.specs.Prelude.{◌≡◌, Err, false, refl};
+ghost use Rattle.std.specs.Prelude.{Err, false, refl};
 ghost use Rattle.status_base.specs.declared.worktree.objects.FindError.TheVariants.{Missing};
 
 use gix_status::index::ObjectId;
 use gix_status::worktree::{Find, FindError};
-use std::alloc::AllocError;
 use std::io::Read;
 use std::rt::Files;
 use std::{fs, io};
 
 /// Blobs in a folder, each in a file that is named by the hexadecimal digits of its id. They aren't modelled.
-#[derive(Drop)]
-pub struct FolderObjects<'a, R> {
-    pub rt: &'a R,
+#[derive(Clone, Copy)]
+pub struct FolderObjects<'a> {
+    pub rt: &'a HostRuntime,
     pub folder: &'a str,
 }
 
-impl<'a, R> Clone for FolderObjects<'a, R> {
-    ghost is_clone = { λ x y. y ≡ x };
-
-    fn clone(&self) -> Result<FolderObjects<'a, R>, AllocError> {
-        Ok(FolderObjects {
-            rt: self.rt,
-            folder: self.folder,
-        })
-    }
-}
-
-impl<'a, R: Files + AllocGlobal> Find for FolderObjects<'a, R> {
+impl<'a> Find for FolderObjects<'a> {
     ghost modelled = { λ _. false };
 
     ghost found = { λ _ _. Err Missing };

@@ -7,16 +7,17 @@ ghost use Rattle.status_call.specs.Inputs.{usual};
 ghost use Rattle.status_call.specs.Counts.{skipped_of};
 ghost use Rattle.status_callers.specs.Clean.{FailsAtFirstFault, SaysClean};
 
-use gix_status::index::{Moment, State};
+use gix_status::index::{Moment, ObjectId, State};
 use gix_status::index_as_worktree::inputs::{Ask, Inputs};
 use gix_status::index_as_worktree::traits::{CompareBlobs, HashEq};
 use gix_status::index_as_worktree::{
     ApplyChange, Capabilities, Context, Error, Options, Outcome, Record, Recorder, VisitEntry,
     apply_changes, index_as_worktree, index_as_worktree_with_defaults,
+    index_as_worktree_without_threads,
 };
 use gix_status::worktree::{
-    AllPaths, Find, MemoryObjects, NoFilter, NoLister, NoSubmodules, Pathspec, SubmoduleStatus,
-    ToGit, Worktree,
+    AllPaths, Find, Lister, MemoryObjects, NoFilter, NoLister, NoSubmodules, Pathspec,
+    SubmoduleStatus, ToGit, Worktree,
 };
 use std::alloc::Global;
 use std::sync::Wait;
@@ -84,7 +85,7 @@ pub struct StatusReport<'index, T, U> {
     pub answer: Result<Outcome, Error>,
 }
 
-/// Calls the status of an index against a worktree, and returns its report. It ends early if it sees the flag set.
+/// Calls the status of an index against a worktree, and returns its report.
 pub fn status_of<
     'index,
     R: AllocGlobal + Threads + Wait,
@@ -100,35 +101,24 @@ pub fn status_of<
     worktree: &W,
     compare: C,
     request: StatusRequest<S, O, P, T>,
-    interrupt: Option<&AtomicBool>,
 ) -> StatusReport<'index, C::Output, S::Output>
 where
     W::File: Send,
     C::Output: Send + 'index,
     S::Output: Send + 'index,
 {
-    let alloc = rt.alloc();
-    let mut recorder = Recorder::new(alloc);
-    let answer = report_to(
-        rt,
-        alloc,
-        index,
-        worktree,
-        &mut recorder,
-        compare,
-        request,
-        interrupt,
-    );
+    let mut recorder = Recorder::new(rt.alloc());
+    let answer = report_to(rt, index, worktree, &mut recorder, compare, request, None);
     StatusReport {
         records: recorder.records,
         answer,
     }
 }
 
-/// Reports to `collector` the status of an index against a worktree.
+/// Reports to `collector` the status of an index against a worktree. It ends early if it sees the flag set.
 pub fn report_to<
     'index,
-    R: Threads + Wait,
+    R: AllocGlobal + Threads + Wait,
     V: VisitEntry<'index, ContentChange = C::Output, SubmoduleStatus = S::Output>,
     W: Worktree + Sync,
     C: CompareBlobs + Send,
@@ -138,7 +128,6 @@ pub fn report_to<
     T: ToGit + Send,
 >(
     rt: &R,
-    alloc: Global,
     index: &'index State,
     worktree: &W,
     collector: &mut V,
@@ -160,6 +149,7 @@ where
         filter,
         options,
     } = request;
+    let alloc = rt.alloc();
     let context = Context {
         pathspec,
         filter,
@@ -169,6 +159,56 @@ where
     index_as_worktree(
         rt, alloc, index, worktree, collector, compare, submodule, objects, context, options,
     )
+}
+
+/// Reports to `collector` a status by ids in this thread alone.
+pub fn report_without_threads<
+    'index,
+    W: Worktree,
+    V: VisitEntry<'index, ContentChange = ObjectId, SubmoduleStatus = ()>,
+    L: Lister,
+>(
+    alloc: Global,
+    index: &'index State,
+    worktree: &W,
+    collector: &mut V,
+    lister: L,
+    options: Options,
+    interrupt: Option<&AtomicBool>,
+) -> Result<Outcome, Error> {
+    let context = Context {
+        pathspec: AllPaths,
+        filter: NoFilter,
+        lister,
+        should_interrupt: interrupt,
+    };
+    index_as_worktree_without_threads(
+        alloc,
+        index,
+        worktree,
+        collector,
+        HashEq,
+        NoSubmodules,
+        MemoryObjects::new(alloc),
+        context,
+        options,
+    )
+}
+
+/// Calls the status by ids with a lister, in this thread alone, and returns its report.
+pub fn status_without_threads<'index, W: Worktree, L: Lister>(
+    alloc: Global,
+    index: &'index State,
+    worktree: &W,
+    lister: L,
+    options: Options,
+) -> StatusReport<'index, ObjectId, ()> {
+    let mut found = Recorder::new(alloc);
+    let answer = report_without_threads(alloc, index, worktree, &mut found, lister, options, None);
+    StatusReport {
+        records: found.records,
+        answer,
+    }
 }
 
 /// A worktree, a comparer and a pathspec, with the usual interfaces.

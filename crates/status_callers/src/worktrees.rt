@@ -4,19 +4,48 @@ use bstr::BStr;
 use gix_status::worktree::{Fault, Metadata, Worktree};
 use std::sync::atomic::{AtomicUsize, Ordering};
 
-/// A worktree that counts the calls of `lstat` and `open` on one path. It is modelled if `worktree` is.
+/// Counts of the calls of `lstat` and `open`.
+#[derive(Drop)]
+pub struct Calls {
+    looks: AtomicUsize,
+    opens: AtomicUsize,
+}
+
+impl Calls {
+    /// Counts of no calls.
+    pub fn new() -> Calls {
+        Calls {
+            looks: AtomicUsize::new(0),
+            opens: AtomicUsize::new(0),
+        }
+    }
+
+    /// How often `lstat` and `open` were called.
+    pub fn made(&self) -> (usize, usize) {
+        (
+            self.looks.load(Ordering::SeqCst),
+            self.opens.load(Ordering::SeqCst),
+        )
+    }
+}
+
+/// A worktree that counts the calls of `lstat` and `open` on one path, or on all if there is none. It is modelled if
+/// `worktree` is.
 #[derive(Clone, Copy)]
 pub struct Counted<'a, W> {
     pub worktree: W,
-    pub path: &'a str,
-    pub looks: &'a AtomicUsize,
-    pub opens: &'a AtomicUsize,
+    pub path: Option<&'a str>,
+    pub calls: &'a Calls,
 }
 
 impl<'a, W> Counted<'a, W> {
     // Counts a call, if it is on the path.
     fn count(&self, path: BStr<'_>, calls: &AtomicUsize) {
-        if path.as_bytes() == self.path.as_bytes() {
+        let is_counted = match self.path {
+            Some(counted) => path.as_bytes() == counted.as_bytes(),
+            None => true,
+        };
+        if is_counted {
             calls.fetch_add(1, Ordering::SeqCst);
         }
     }
@@ -34,12 +63,12 @@ impl<'a, W: Worktree> Worktree for Counted<'a, W> {
     ghost target_of = { λ c. W.target_of c.worktree };
 
     fn lstat(&self, path: BStr<'_>) -> Result<Metadata, Fault> {
-        self.count(path, self.looks);
+        self.count(path, &self.calls.looks);
         self.worktree.lstat(path)
     }
 
     fn open(&self, path: BStr<'_>) -> Result<W::File, Fault> {
-        self.count(path, self.opens);
+        self.count(path, &self.calls.opens);
         self.worktree.open(path)
     }
 

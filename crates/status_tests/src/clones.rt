@@ -2,7 +2,7 @@
 
 use crate::call::reports::status_by_pieces;
 use crate::joined::record_lines::lines_of;
-use crate::joined::rows::{A, FILE_B, FILE_C};
+use crate::joined::rows::{A, FILE_B, FILE_C, RENAMES};
 use crate::support::prelude::*;
 use gix_status::index_as_worktree::Context;
 use status_callers::joined::broken::Broken;
@@ -74,8 +74,8 @@ fn are_copied<R: AllocGlobal + Threads + Wait>(rt: &R) -> Result<bool, Fail> {
         fault: None,
     };
     let pairs = &[Renamed(0, 1), Copied(2, 3)];
-    let request = JoinedRequest::rewritten(walk, Answers { alloc, pairs });
-    let report = joined(rt, &index, &worktree, request);
+    let request = JoinedRequest::new(walk, Answers { alloc, pairs }, RENAMES);
+    let report = joined(rt, &index, &worktree, NoSubmodules, request);
     let text = lines_of(alloc, &report.records.clone()?)?;
     Ok(text.as_str() == LINES)
 }

@@ -1,9 +1,8 @@
 //! Histories in the library and stored indexes. The rows of the program have others, also with events that are refused.
 
-use crate::support::contents::BAR;
 use crate::support::prelude::*;
 use Step::{Link, Remove, Stage, Tick, Write};
-use gix_status::index::stat;
+use gix_status::index::{HashKind, compute_hash, stat};
 use gix_status::index_as_worktree::{Change, EntryStatus, Outcome};
 use gix_status::stack::{StackError, SymlinkCheck};
 use gix_status::world::{Comparer, Event, Refusal, Report, World};
@@ -42,7 +41,7 @@ fn is_bar(report: &Report, to_zero: bool) -> bool {
     };
     let changed = Change::Modification {
         executable_bit_changed: false,
-        content_change: Some(Some(BAR)),
+        content_change: Some(Some(compute_hash(HashKind::Sha1, b"bar"))),
         set_entry_stat_size_zero: to_zero,
     };
     let outcome = Outcome {
@@ -110,20 +109,19 @@ fn all_keys_are_stored_in_their_order(rt: HostRuntime) -> Result<(), Fail> {
     Ok(())
 }
 
-// Returns the events that stage an empty file at a path that isn't UTF-8, and a run after a reopening.
-fn odd_stretches(alloc: Global) -> Result<Vec<Vec<Event>>, AllocError> {
-    let mut odd_events = Vec::new(alloc);
-    odd_events.push(Event::Write(BString::from_slice(alloc, b"\xff")?, Vec::new(alloc)))?;
-    odd_events.push(Event::Stage(BString::from_slice(alloc, b"\xff")?))?;
-    let mut stretches = Vec::new(alloc);
-    stretches.push(odd_events)?;
-    stretches.push(events(alloc, &[run_at(5)])?)?;
-    Ok(stretches)
+// Returns the events that stage an empty file at a path that isn't UTF-8.
+fn odd_events(alloc: Global) -> Result<Vec<Event>, AllocError> {
+    let mut events = Vec::new(alloc);
+    events.push(Event::Write(BString::from_slice(alloc, b"\xff")?, Vec::new(alloc)))?;
+    events.push(Event::Stage(BString::from_slice(alloc, b"\xff")?))?;
+    Ok(events)
 }
 
 #[test]
 fn an_index_with_a_path_that_is_no_text_is_not_opened_again(rt: HostRuntime) -> Result<(), Fail> {
-    let stretches = odd_stretches(rt.alloc())?;
+    let mut stretches = Vec::new(rt.alloc());
+    stretches.push(odd_events(rt.alloc())?)?;
+    stretches.push(events(rt.alloc(), &[run_at(5)])?)?;
     let world = new_world(rt.alloc(), FIVE, SECONDS)?;
     let replayed = replay_reopening(&rt, rt.alloc(), world, &stretches);
     let is_not_opened = matches!(

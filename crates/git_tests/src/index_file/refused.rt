@@ -63,33 +63,17 @@ fn of_cut_content(len: usize) -> Option<IndexFileError> {
 }
 
 #[test]
-fn cut_files_are_refused(rt: HostRuntime) -> Result<(), Fail> {
+fn cut_files_and_contents_are_refused(rt: HostRuntime) -> Result<(), Fail> {
     let mut cut = Vec::new(rt.alloc());
     for byte in TREE {
-        let want = Some(of_cut(cut.len()));
-        assert_eq!(rt;
-            refused(rt.alloc(), HashKind::Sha1, &cut),
-            want,
-            "at {}",
-            cut.len()
-        );
-        cut.push(*byte)?;
-    }
-    Ok(())
-}
-
-#[test]
-fn cut_contents_are_refused(rt: HostRuntime) -> Result<(), Fail> {
-    let mut cut = Vec::new(rt.alloc());
-    for byte in content(TREE) {
-        let bytes = unchecked(rt.alloc(), &cut)?;
-        let want = of_cut_content(cut.len());
-        assert_eq!(rt;
-            refused(rt.alloc(), HashKind::Sha1, &bytes),
-            want,
-            "at {}",
-            cut.len()
-        );
+        let at = cut.len();
+        let found = refused(rt.alloc(), HashKind::Sha1, &cut);
+        assert_eq!(rt; found, Some(of_cut(at)), "at {at}");
+        if at < content(TREE).len() {
+            let whole = unchecked(rt.alloc(), &cut)?;
+            let found = refused(rt.alloc(), HashKind::Sha1, &whole);
+            assert_eq!(rt; found, of_cut_content(at), "content at {at}");
+        }
         cut.push(*byte)?;
     }
     Ok(())

@@ -1,16 +1,10 @@
-//! A collector that runs out of memory.
+//! The same collector in the joined call.
 
+use crate::collectors::Full;
 use gix_status::index_as_worktree_with_renames::{Entry, VisitEntry};
 use std::alloc::AllocError;
 
-/// Passes `room` entries on to `collector`, and returns out of memory for the next.
-#[derive(Drop)]
-pub struct Full<V> {
-    pub collector: V,
-    pub room: usize,
-}
-
-impl<'index, V: VisitEntry<'index>> VisitEntry<'index> for Full<V>
+impl<'index, 'a, V: VisitEntry<'index>> VisitEntry<'index> for Full<'a, V>
 where
     V::ContentChange: Drop,
     V::SubmoduleStatus: Drop,
@@ -33,10 +27,9 @@ where
         ensures ok { OnOk result (V.visits self.new.collector ≡ V.visits self.old.collector ++ reported_entry entry.entry ∷ []) }
         ensures err { OnErr result (IsTrue true × (V.visits self.new.collector ≡ V.visits self.old.collector)) }
     {
-        if self.room == 0 {
+        if !self.admits() {
             return Err(AllocError);
         }
-        self.room -= 1;
         self.collector.visit_entry(entry)
     }
 }

@@ -13,10 +13,8 @@ use gix_status::index_as_worktree_with_renames::{
 use gix_status::tracker::{Rewrites, Tracker};
 use gix_status::walk::Walk;
 use gix_status::worktree::{
-    AllPaths, Lister, MemoryObjects, NoFilter, NoLister, NoSubmodules, SubmoduleStatus, ToGit,
-    Worktree,
+    AllPaths, MemoryObjects, NoFilter, NoLister, SubmoduleStatus, Worktree,
 };
-use std::alloc::Global;
 use std::sync::Wait;
 use std::sync::atomic::AtomicBool;
 use std::thread::Threads;
@@ -31,23 +29,13 @@ pub struct JoinedRequest<'a, K, X> {
 }
 
 impl<'a, K, X> JoinedRequest<'a, K, X> {
-    /// Returns a request for a sorted list of records and untracked files, with no renames or copies. Links count, and
+    /// Returns a request for a sorted list of records and untracked files, with such renames and copies. Links count, and
     /// executability doesn't.
-    pub fn sorted(walk: K, tracker: X) -> JoinedRequest<'a, K, X> {
+    pub fn new(walk: K, tracker: X, rewrites: Option<Rewrites>) -> JoinedRequest<'a, K, X> {
         JoinedRequest {
             walk,
             tracker,
-            options: options(None),
-            interrupt: None,
-        }
-    }
-
-    /// Returns the same request with renames and copies, except those of empty files.
-    pub fn rewritten(walk: K, tracker: X) -> JoinedRequest<'a, K, X> {
-        JoinedRequest {
-            walk,
-            tracker,
-            options: options(Some(Rewrites { track_empty: false })),
+            options: options(rewrites),
             interrupt: None,
         }
     }
@@ -72,8 +60,8 @@ pub fn options(rewrites: Option<Rewrites>) -> Options {
 
 /// The reported entries, and the outcome of the call or its error.
 #[derive(Drop)]
-pub struct JoinedReport<'index> {
-    pub records: Vec<Entry<'index, ObjectId, ()>>,
+pub struct JoinedReport<'index, U> {
+    pub records: Vec<Entry<'index, ObjectId, U>>,
     pub answer: Result<Outcome, Error>,
 }
 
@@ -82,56 +70,43 @@ pub fn joined<
     'index,
     R: AllocGlobal + Threads + Wait,
     W: Worktree + Sync,
+    S: SubmoduleStatus + Send,
     K: Walk<W> + Send + Drop,
     X: Tracker + Drop,
 >(
     rt: &R,
     index: &'index State,
     worktree: &W,
+    submodule: S,
     request: JoinedRequest<'_, K, X>,
-) -> JoinedReport<'index>
+) -> JoinedReport<'index, S::Output>
 where
     W::File: Send,
+    S::Output: Send + ExactClone + 'index,
 {
-    let alloc = rt.alloc();
-    let mut recorder = Recorder::new(alloc);
-    let answer = report_to(
-        rt,
-        alloc,
-        index,
-        worktree,
-        &mut recorder,
-        NoSubmodules,
-        NoFilter,
-        NoLister,
-        request,
-    );
+    let mut recorder = Recorder::new(rt.alloc());
+    let answer = report_to(rt, index, worktree, &mut recorder, submodule, request);
     JoinedReport {
         records: recorder.records,
         answer,
     }
 }
 
-/// Calls the status by ids with a collector, submodules, a filter and a lister.
+/// Calls the status by ids with a collector and submodules.
 pub fn report_to<
     'index,
-    R: Threads + Wait,
+    R: AllocGlobal + Threads + Wait,
     W: Worktree + Sync,
     S: SubmoduleStatus + Send,
-    F: ToGit + Send,
-    L: Lister + Send,
     V: VisitEntry<'index, ContentChange = ObjectId, SubmoduleStatus = S::Output>,
     K: Walk<W> + Send + Drop,
     X: Tracker + Drop,
 >(
     rt: &R,
-    alloc: Global,
     index: &'index State,
     worktree: &W,
     collector: &mut V,
     submodule: S,
-    filter: F,
-    lister: L,
     request: JoinedRequest<'_, K, X>,
 ) -> Result<Outcome, Error>
 where
@@ -144,10 +119,11 @@ where
         options,
         interrupt,
     } = request;
+    let alloc = rt.alloc();
     let context = Context {
         pathspec: AllPaths,
-        filter,
-        lister,
+        filter: NoFilter,
+        lister: NoLister,
         should_interrupt: interrupt,
         dirwalk: DirwalkContext { walk },
         tracker,

@@ -1,43 +1,9 @@
 //! The check of paths that lead through links: each form of result, and that the counted calls of `lstat` are made.
 
-ghost use Rattle.std.specs.Prelude.{false, Err};
-ghost use Rattle.status_index.specs.declared.fault.Fault.TheVariants.{NotFound};
-
 use crate::support::prelude::*;
 use NodeKind::{Directory, File, Link};
 use status_base::stack::SymlinkCheck;
-
-/// A worktree in memory that counts all calls of `lstat`. It isn't modelled.
-#[derive(Drop)]
-struct CountsAll<'a> {
-    worktree: MemoryWorktree,
-    looks: &'a AtomicUsize,
-}
-
-impl<'a> Worktree for CountsAll<'a> {
-    type File = MemoryFile;
-
-    ghost modelled = { λ _. false };
-
-    ghost lstat_of = { λ _ _. Err NotFound };
-
-    ghost open_of = { λ _ _. Err NotFound };
-
-    ghost target_of = { λ _ _. Err NotFound };
-
-    fn lstat(&self, path: BStr<'_>) -> Result<Metadata, Fault> {
-        self.looks.fetch_add(1, Ordering::SeqCst);
-        self.worktree.lstat(path)
-    }
-
-    fn open(&self, path: BStr<'_>) -> Result<MemoryFile, Fault> {
-        self.worktree.open(path)
-    }
-
-    fn read_link(&self, path: BStr<'_>, target: &mut Vec<u8>) -> Result<(), Fault> {
-        self.worktree.read_link(path, target)
-    }
-}
+use status_callers::worktrees::Counted;
 
 const NODES: [NodeRow<'static>; 5] = [
     ("a", Directory, b"", 0, Some(STAGED)),
@@ -91,7 +57,7 @@ const ALIKE_ROWS: [Row; 2] = [
 fn answer(
     alloc: Global,
     check: &mut SymlinkCheck,
-    worktree: &CountsAll<'_>,
+    worktree: &Counted<'_, MemoryWorktree>,
     path: &str,
     may_be_absent: bool,
 ) -> Result<String, AllocError> {
@@ -108,13 +74,13 @@ fn answer(
 fn is_row(
     alloc: Global,
     check: &mut SymlinkCheck,
-    worktree: &CountsAll<'_>,
+    worktree: &Counted<'_, MemoryWorktree>,
     row: &Row,
 ) -> Result<bool, AllocError> {
     let (path, may_be_absent, want, looks) = *row;
     let found = answer(alloc, check, worktree, path, may_be_absent)?;
-    let made = worktree.looks.load(Ordering::SeqCst) as u64;
-    let is_counted = check.looks() == looks && made == looks;
+    let (made, _) = worktree.calls.made();
+    let is_counted = check.looks() == looks && made as u64 == looks;
     Ok(found.as_str() == want && is_counted && check.root() == BStr::from("r"))
 }
 
@@ -124,10 +90,11 @@ fn assert_rows<R: AllocGlobal + Abort>(
     nodes: &[NodeRow<'_>],
     rows: &[Row],
 ) -> Result<(), Fail> {
-    let looks = AtomicUsize::new(0);
-    let worktree = CountsAll {
+    let calls = Calls::new();
+    let worktree = Counted {
         worktree: worktree(rt.alloc(), nodes)?,
-        looks: &looks,
+        path: None,
+        calls: &calls,
     };
     let root = BString::from_slice(rt.alloc(), "r")?;
     let mut check = SymlinkCheck::new(rt.alloc(), root);

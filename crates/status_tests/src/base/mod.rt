@@ -1,4 +1,4 @@
-//! Tests of an index, of worktrees on disk and in memory, and of their walks, listings and the check for symbolic links.
+//! Tests of an index, of folders of the disk and their walks, and of listings and the check for symbolic links.
 //!
 //! Begin at `values`.
 
@@ -7,6 +7,5 @@ mod disk_reads;
 mod disk_walk;
 mod fscache;
 mod links;
-mod memory;
 mod states;
 mod values;

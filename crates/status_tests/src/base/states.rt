@@ -40,30 +40,32 @@ fn entries_may_be_refused(rt: HostRuntime) -> Result<(), Fail> {
     Ok(())
 }
 
+// A prefix, the ends of the range of its entries, and between how many comparisons are made.
+type Search = (&'static str, Option<(usize, usize)>, u32, u32);
+
+static SEARCHES: [Search; 4] = [
+    // The entries on both sides of each end have to be compared: four of them.
+    ("a/", Some((2, 4)), 4, 6),
+    ("a", Some((0, 5)), 1, 6),
+    ("b", None, 1, 6),
+    ("", Some((0, 5)), 0, 0),
+];
+
+fn is_found(state: &State, search: &Search) -> bool {
+    let (prefix, want, least, most) = *search;
+    let (range, compared) = state.prefixed_entries_range_counted(BStr::from(prefix));
+    let ends = match range {
+        Some(range) => Some((range.start, range.end)),
+        None => None,
+    };
+    ends == want && least <= compared && compared <= most
+}
+
 #[test]
 fn a_search_for_a_prefix_counts(rt: HostRuntime) -> Result<(), Fail> {
-    let rows = [
-        ("a", Sha1),
-        ("a-", Sha1),
-        ("a/b", Sha1),
-        ("a/c", Sha1),
-        ("a0", Sha1),
-    ];
-    let state = made(rt.alloc(), &rows)??;
-    for (prefix, want, least, most) in [
-        // The entries on both sides of each end have to be compared: four of them.
-        ("a/", Some((2, 4)), 4, 6),
-        ("a", Some((0, 5)), 1, 6),
-        ("b", None, 1, 6),
-        ("", Some((0, 5)), 0, 0),
-    ] {
-        let (range, compared) = state.prefixed_entries_range_counted(BStr::from(prefix));
-        let ends = match range {
-            Some(range) => Some((range.start, range.end)),
-            None => None,
-        };
-        assert_eq!(rt; ends, want, "at {prefix}");
-        assert!(rt; least <= compared && compared <= most, "at {prefix}");
+    let state = foos(rt.alloc(), &["a", "a-", "a/b", "a/c", "a0"])?;
+    for search in &SEARCHES {
+        assert!(rt; is_found(&state, search), "at {}", search.0);
     }
     Ok(())
 }

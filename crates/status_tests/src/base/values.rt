@@ -1,25 +1,42 @@
 //! Ids of contents and modes of entries, which are those of git, and the bits of flags, which are the library's own.
 
-use crate::support::contents::{BAR, EMPTY, FOO};
 use crate::support::prelude::*;
 use bitflags::Flags as _;
 use status_index::{Flags, HashKind, compute_hash};
 
-const EMPTY_BY_SHA256: [u8; 32] = [
-    0x47, 0x3a, 0x0f, 0x4c, 0x3b, 0xe8, 0xa9, 0x36, 0x81, 0xa2, 0x67, 0xe3, 0xb1, 0xe9, 0xa7, 0xdc,
-    0xda, 0x11, 0x85, 0x43, 0x6f, 0xe1, 0x41, 0xf7, 0x74, 0x91, 0x20, 0xa3, 0x03, 0x72, 0x18, 0x13,
+/// A content, and its id as git prints it.
+type Row = (HashKind, &'static [u8], &'static str);
+
+static IDS: [Row; 4] = [
+    (
+        HashKind::Sha1,
+        b"foo",
+        "19102815663d23f8b75a47e7a01965dcdc96468c",
+    ),
+    (
+        HashKind::Sha1,
+        b"bar",
+        "ba0e162e1c47469e3fe4b393a8bf8c569f302116",
+    ),
+    (
+        HashKind::Sha1,
+        b"",
+        "e69de29bb2d1d6434b8b29ae775ad8c2e48c5391",
+    ),
+    (
+        HashKind::Sha256,
+        b"",
+        "473a0f4c3be8a93681a267e3b1e9a7dcda1185436fe141f7749120a303721813",
+    ),
 ];
 
 #[test]
-fn ids_are_those_of_git(rt: HostRuntime) {
-    for (kind, bytes, id) in [
-        (HashKind::Sha1, b"foo".as_slice(), FOO),
-        (HashKind::Sha1, b"bar", BAR),
-        (HashKind::Sha1, b"", EMPTY),
-        (HashKind::Sha256, b"", ObjectId::Sha256(EMPTY_BY_SHA256)),
-    ] {
-        assert_eq!(rt; compute_hash(kind, bytes), id);
+fn ids_are_those_of_git(rt: HostRuntime) -> Result<(), Fail> {
+    for (kind, content, want) in &IDS {
+        let id = compute_hash(*kind, content);
+        assert_eq!(rt; hex::encode(rt.alloc(), id.as_bytes())?.as_str(), *want);
     }
+    Ok(())
 }
 
 #[test]

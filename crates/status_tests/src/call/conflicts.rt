@@ -38,7 +38,7 @@ const ROWS: [Row; 3] = [
 fn index_of(alloc: Global, stages: &[(&str, u32, Mode)]) -> Result<State, Fail> {
     let mut entries = Vec::new(alloc);
     for (path, stage, mode) in stages {
-        entries.push((*path, *stage, *mode, FOO))?;
+        entries.push((*path, *stage, *mode, b"foo".as_slice()))?;
     }
     Ok(index(alloc, &entries)?)
 }

@@ -13,7 +13,7 @@ use status_callers::statuses::StatusReport;
 #[derive(Clone, Copy)]
 enum End {
     /// It reports the third file too, and this status of the second. So many files and bytes are read.
-    Reports(Option<Says>, usize, u64),
+    Reports(Option<Says<'static>>, usize, u64),
     Fails(Fault),
     /// It fails because a time isn't known.
     LacksTime,
@@ -42,11 +42,11 @@ const UNTIMED: NodeRow<'static> = ("b", File, b"bar", 3, None);
 
 const CLEAN: NodeRow<'static> = ("b", File, b"foo", 3, Some(STAGED));
 
-const TO_BAR: Option<Says> = Some(Says::Changed(BAR));
+const TO_BAR: Option<Says<'static>> = Some(Says::Changed(b"bar"));
 
-const TO_BA: Option<Says> = Some(Says::Changed(BA));
+const TO_BA: Option<Says<'static>> = Some(Says::Changed(b"ba"));
 
-const TO_BARS: Option<Says> = Some(Says::Changed(BARS));
+const TO_BARS: Option<Says<'static>> = Some(Says::Changed(b"bars"));
 
 /// The node at the second path, a fault there, how the status ends, and how often the second file is opened. `lstat` is
 /// called on it once. On the third `lstat` and `open` are called once, but not after a failure.
@@ -69,7 +69,7 @@ const ROWS: [Row; 9] = [
 ];
 
 fn is_ended(report: &StatusReport<'_, ObjectId, ()>, end: End) -> bool {
-    let changed = Says::Changed(BAR);
+    let changed = Says::Changed(b"bar");
     let (first, third) = ((0, "a", changed), (2, "c", changed));
     match end {
         Reports(Some(second), files, bytes) => {
@@ -95,7 +95,7 @@ fn is_right<R: AllocGlobal + Threads + Wait>(rt: &R, row: &Row) -> Result<bool, 
     } else {
         Mode::File
     };
-    let entries = [foo_entry("a"), ("b", 0, mode, FOO), foo_entry("c")];
+    let entries = [foo_entry("a"), ("b", 0, mode, b"foo"), foo_entry("c")];
     let index = index(rt.alloc(), &entries)?;
     let nodes = [later_file("a", b"bar"), node, later_file("c", b"bar")];
     let mut files = worktree(rt.alloc(), &nodes)?;

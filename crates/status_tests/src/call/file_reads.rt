@@ -108,7 +108,7 @@ fn a_long_file_is_opened_once_and_read_in_large_pieces(rt: HostRuntime) -> Resul
         bytes: &content,
         fault: None,
     };
-    let wanted = [(0, "a", Says::Changed(LONG))];
+    let wanted = [(0, "a", Says::Changed(&content))];
     let reads = reads(&rt, piece, 200_000, &wanted, &Ok(read(1, 1, 200_000)))?;
     assert!(rt; matches!(reads, Some(reads) if reads <= 5), "{reads:?}");
     Ok(())

@@ -1,15 +1,13 @@
 //! Listings of directories, which replace calls of `lstat`, and how often a directory is listed and `lstat` called on it.
 
-use crate::call::reports::{is_taken, read};
-use crate::call::statuses::listed_status;
+use crate::call::reports::{Says, is_report, read};
 use crate::support::inputs::LISTED_FILE;
 use crate::support::prelude::*;
 use crate::support::side_effects::CountingLister;
 use gix_status::fscache::Stat;
-use gix_status::index_as_worktree::{Capabilities, Change, EntryStatus, Error, Options, Outcome};
-use gix_status::worktree::Point;
+use gix_status::index_as_worktree::{Capabilities, Options, Outcome};
 use status_callers::listers::{Directories, Directory};
-use status_callers::statuses::options;
+use status_callers::statuses::{options, status_without_threads};
 
 const LISTED_DIRECTORY: Stat = Stat {
     is_dir: true,
@@ -40,58 +38,31 @@ const NODES: [NodeRow<'static>; 6] = [
     ("l", NodeKind::Link, b"d", 1, Some(LATER)),
 ];
 
-/// The status of each entry.
-#[derive(Clone, Copy, PartialEq, Eq)]
-enum Verdict {
-    Unchanged,
-    Removed,
-    /// Executability changed, and nothing else.
-    Executable,
-}
-
-/// The status of each entry, how often `lstat` is called on entries' paths, and how many files of three
+/// The status of each entry, if it has one, how often `lstat` is called on entries' paths, and how many files of three
 /// bytes are read.
-type Answer = (Verdict, usize, usize);
+type Answer = (Option<Says<'static>>, usize, usize);
 
-/// Entries, whether they are executable files, and the results of the status with listings and without. The entries
-/// are alike: `lstat` is called on the paths of all, or of none.
-type Row = (&'static [&'static str], bool, Answer, Answer);
+/// Entries, their mode, and the results of the status with listings and without. The entries are alike: `lstat` is called
+/// on the paths of all, or of none.
+type Row = (&'static [&'static str], Mode, Answer, Answer);
+
+const REMOVED: Option<Says<'static>> = Some(Says::Removed);
 
 static ROWS: [Row; 5] = [
-    (
-        &["clean"],
-        false,
-        (Verdict::Unchanged, 0, 0),
-        (Verdict::Unchanged, 1, 0),
-    ),
+    (&["clean"], Mode::File, (None, 0, 0), (None, 1, 0)),
     // A listed directory is no file.
-    (
-        &["directory"],
-        false,
-        (Verdict::Removed, 0, 0),
-        (Verdict::Unchanged, 1, 0),
-    ),
+    (&["directory"], Mode::File, (REMOVED, 0, 0), (None, 1, 0)),
     // A listed file is never executable. It is read, because its executability seems to have changed.
     (
         &["executable"],
-        true,
-        (Verdict::Executable, 0, 1),
-        (Verdict::Unchanged, 1, 0),
+        Mode::FileExecutable,
+        (Some(Says::Executable), 0, 1),
+        (None, 1, 0),
     ),
     // The directory can't be listed.
-    (
-        &["d/x", "d/y"],
-        false,
-        (Verdict::Unchanged, 2, 0),
-        (Verdict::Unchanged, 2, 0),
-    ),
+    (&["d/x", "d/y"], Mode::File, (None, 2, 0), (None, 2, 0)),
     // No path leads through a link, whatever is listed below it.
-    (
-        &["l/x"],
-        false,
-        (Verdict::Removed, 0, 0),
-        (Verdict::Removed, 0, 0),
-    ),
+    (&["l/x"], Mode::File, (REMOVED, 0, 0), (REMOVED, 0, 0)),
 ];
 
 // Returns the worktree of the nodes, one of which is executable.
@@ -117,74 +88,44 @@ fn options_by(executable_bit: bool, fscache: bool) -> Options {
     }
 }
 
-// Returns whether an entry has this status.
-fn is_status(verdict: Verdict, status: &EntryStatus<ObjectId, ()>) -> bool {
-    match status {
-        EntryStatus::Change(Change::Removed) => verdict == Verdict::Removed,
-        EntryStatus::Change(
-            Change::Modification {
-                executable_bit_changed: true,
-                content_change: None,
-                set_entry_stat_size_zero: false,
-            },
-        ) => verdict == Verdict::Executable,
-        _ => false,
-    }
-}
-
 // Returns whether a status has the result of its row, with listings or without, and calls `lstat` and `open` on the
 // first path as often.
-fn is_right<R: AllocGlobal + Threads + Wait>(
-    rt: &R,
-    row: &Row,
-    fscache: bool,
-) -> Result<bool, Fail> {
-    let (paths, executable_bit, listed, unlisted) = *row;
-    let (verdict, lstats, opens) = if fscache { listed } else { unlisted };
-    let (Some(first), alloc) = (paths.first(), rt.alloc()) else {
-        return Ok(false);
-    };
-    let mode = if executable_bit {
-        Mode::FileExecutable
-    } else {
-        Mode::File
-    };
-    let mut entries = Vec::new(alloc);
-    for path in paths {
-        entries.push((*path, 0, mode, FOO))?;
+fn is_right(alloc: Global, row: &Row, fscache: bool) -> Result<bool, Fail> {
+    let (paths, mode, listed, unlisted) = *row;
+    let (says, lstats, opens) = if fscache { listed } else { unlisted };
+    let (mut entries, mut wanted) = (Vec::new(alloc), Vec::new(alloc));
+    for (at, path) in paths.iter().enumerate() {
+        entries.push((*path, 0, mode, b"foo".as_slice()))?;
+        if let Some(says) = says {
+            wanted.push((at, *path, says))?;
+        }
     }
     let (index, calls) = (index(alloc, &entries)?, Calls::new());
-    let worktree = counted(files(alloc)?, *first, &calls);
+    let first = paths.first().map_or("", |path| *path);
+    let worktree = counted(files(alloc)?, first, &calls);
     let lister = Directories {
         alloc,
         directories: &DIRECTORIES,
     };
-    let options = options_by(executable_bit, fscache);
-    let report = listed_status(rt, &index, &worktree, lister, options);
-    for record in &report.records {
-        if !is_status(verdict, &record.status) {
-            return Ok(false);
-        }
-    }
-    let records = if verdict == Verdict::Unchanged {
-        0
-    } else {
-        paths.len()
-    };
-    let bytes = (opens as u64).saturating_mul(3);
-    let wanted = Outcome {
+    let options = options_by(mode == Mode::FileExecutable, fscache);
+    let report = status_without_threads(alloc, &index, &worktree, lister, options);
+    let outcome = Outcome {
         symlink_metadata_calls: lstats,
-        ..read(paths.len(), opens, bytes)
+        ..read(paths.len(), opens, (opens as u64).saturating_mul(3))
     };
-    let is_counted = calls.made() == (lstats.min(1), opens) && report.records.len() == records;
-    Ok(is_counted && is_taken(&report.answer, &wanted))
+    let is_counted = calls.made() == (lstats.min(1), opens);
+    Ok(is_counted && is_report(&report, &wanted, &Ok(outcome)))
 }
 
 #[test]
 fn listings_replace_lstat(rt: HostRuntime) -> Result<(), Fail> {
     for row in &ROWS {
         for fscache in [true, false] {
-            assert!(rt; is_right(&rt, row, fscache)?, "{:?}, {fscache}", row.0);
+            assert!(rt;
+                is_right(rt.alloc(), row, fscache)?,
+                "{:?}, {fscache}",
+                row.0
+            );
         }
     }
     Ok(())
@@ -193,21 +134,12 @@ fn listings_replace_lstat(rt: HostRuntime) -> Result<(), Fail> {
 /// The directory `d` lists two files.
 const TWO_FILES: [Directory<'static>; 1] = [("d", Some(&[("x", LISTED_FILE), ("y", LISTED_FILE)]))];
 
-/// Returns how often a status with one worker calls the lister, with three entries in `d`, one of which is gone. It has
-/// to report that one, or to fail if `lstat` of `d` is interrupted, and has to call `lstat` on `d` once.
-fn lists<R: AllocGlobal + Threads + Wait>(
-    rt: &R,
-    fscache: bool,
-    interrupted: bool,
-) -> Result<Option<usize>, Fail> {
-    let alloc = rt.alloc();
+/// Returns how often a status calls the lister, with three entries in `d`, one of which is gone. None if it doesn't
+/// report that one, or doesn't call `lstat` on `d` once.
+fn lists(alloc: Global, fscache: bool) -> Result<Option<usize>, Fail> {
     let index = foos(alloc, &["d/gone", "d/x", "d/y"])?;
-    let mut files = worktree(alloc, &NODES)?;
-    if interrupted {
-        files.plant(BStr::from("d"), Point::Lstat, Fault::Interrupted)?;
-    }
     let (calls, lists) = (Calls::new(), AtomicUsize::new(0));
-    let worktree = counted(files, "d", &calls);
+    let worktree = counted(worktree(alloc, &NODES)?, "d", &calls);
     let directories = &TWO_FILES;
     let lister = CountingLister {
         lister: Directories { alloc, directories },
@@ -215,27 +147,18 @@ fn lists<R: AllocGlobal + Threads + Wait>(
         refuses: None,
     };
     let options = Options {
-        fscache,
         chunk_size: 1,
-        thread_limit: Some(1),
-        ..options()
+        ..options_by(false, fscache)
     };
-    let report = listed_status(rt, &index, &worktree, lister, options);
-    let is_reported = match &report.answer {
-        Ok(_) => !interrupted && report.records.len() == 1,
-        Err(Error::Io(Fault::Interrupted)) => interrupted && report.records.is_empty(),
-        Err(_) => false,
-    };
-    let is_right = is_reported && calls.made() == (1, 0);
+    let report = status_without_threads(alloc, &index, &worktree, lister, options);
+    let is_right = report.answer.is_ok() && report.records.len() == 1 && calls.made() == (1, 0);
     Ok(is_right.then_some(lists.load(Ordering::SeqCst)))
 }
 
 #[test]
 fn one_lstat_and_one_listing_of_a_directory_serve_its_entries(rt: HostRuntime) -> Result<(), Fail> {
-    assert_eq!(rt; lists(&rt, true, false)?, Some(1));
+    assert_eq!(rt; lists(rt.alloc(), true)?, Some(1));
     // Without the option the lister isn't called.
-    assert_eq!(rt; lists(&rt, false, false)?, Some(0));
-    // An `lstat` that is interrupted isn't made again.
-    assert_eq!(rt; lists(&rt, false, true)?, Some(0));
+    assert_eq!(rt; lists(rt.alloc(), false)?, Some(0));
     Ok(())
 }

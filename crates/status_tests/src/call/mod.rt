@@ -1,6 +1,6 @@
 //! Tests of the status call.
 //!
-//! Begin at `failing_calls`. `statuses` and `reports` have what several tests use.
+//! Begin at `failing_calls`. `reports` has what several tests use.
 
 mod conflicts;
 mod failing_calls;
@@ -14,6 +14,5 @@ mod refusals;
 pub mod reports;
 mod runs;
 mod sizes_and_blobs;
-mod statuses;
 mod streams;
 mod submodules;

@@ -6,7 +6,7 @@ use Conflict::{
     AddedByThem, AddedByUs, BothAdded, BothDeleted, BothModified, DeletedByThem, DeletedByUs,
 };
 use EntryKind::{Blob, BlobExecutable, Commit, Link, Tree};
-use gix_status::index::{EntryKind, Flags, HashKind, Stat};
+use gix_status::index::{EntryKind, Flags, HashKind, Stat, compute_hash};
 use gix_status::index_as_worktree::{Change, Conflict, ConflictIndexEntry, EntryStatus, Outcome};
 use std::cmp::Ordering;
 
@@ -24,10 +24,10 @@ fn are_ascending<T: Ord>(values: &[T]) -> bool {
     true
 }
 
-/// Returns what a conflict keeps of an entry.
-fn kept(id: ObjectId, stage: u32, mode: Mode) -> ConflictIndexEntry {
+/// Returns what a conflict keeps of an entry. In order of their ids, `foo` is before `bar`.
+fn kept(content: &[u8], stage: u32, mode: Mode) -> ConflictIndexEntry {
     ConflictIndexEntry {
-        id,
+        id: compute_hash(HashKind::Sha1, content),
         flags: Flags::from_stage(stage),
         mode,
     }
@@ -44,10 +44,10 @@ fn words_are_ordered_as_they_are_declared(rt: HostRuntime) {
 #[test]
 fn kept_entries_are_ordered_by_id_flags_and_mode(rt: HostRuntime) {
     let entries = [
-        kept(FOO, 1, Mode::File),
-        kept(FOO, 1, Mode::Symlink),
-        kept(FOO, 2, Mode::File),
-        kept(BAR, 1, Mode::File),
+        kept(b"foo", 1, Mode::File),
+        kept(b"foo", 1, Mode::Symlink),
+        kept(b"foo", 2, Mode::File),
+        kept(b"bar", 1, Mode::File),
     ];
     assert!(rt; are_ascending(&entries));
 }
@@ -104,7 +104,7 @@ fn change_at(place: usize) -> Change<u32, u32> {
 fn conflict(summary: Conflict, stage: usize) -> EntryStatus<u32, u32> {
     let mut entries = [None, None, None];
     if 0 < stage && stage < 4 {
-        entries[stage - 1] = Some(kept(FOO, 1, Mode::File));
+        entries[stage - 1] = Some(kept(b"foo", 1, Mode::File));
     }
     EntryStatus::Conflict { summary, entries }
 }

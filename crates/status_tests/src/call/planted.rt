@@ -37,18 +37,18 @@ const POINTS: [Point; 9] = [
     Point::Read(5),
 ];
 
-/// The path of an entry, the content of its file or link, which was changed after the entry was staged, its length, and
-/// whether it is a link.
-type Site = (&'static str, ObjectId, u64, bool);
+/// The path of an entry, the content of its file or link, which was changed after the entry was staged, and whether it is
+/// a link.
+type Site = (&'static str, &'static [u8], bool);
 
 const SITES: [Site; 3] = [
-    ("a", BAR, 3, false),
-    ("d/l", BARS, 4, true),
-    ("z", BARS, 4, false),
+    ("a", b"bar", false),
+    ("d/l", b"bars", true),
+    ("z", b"bars", false),
 ];
 
 fn entries(alloc: Global) -> Result<State, IndexError> {
-    let link = ("d/l", 0, Mode::Symlink, FOO);
+    let link = ("d/l", 0, Mode::Symlink, b"foo".as_slice());
     index(alloc, &[foo_entry("a"), link, foo_entry("z")])
 }
 
@@ -70,14 +70,14 @@ fn is_above(planted: Planted, site: &Site) -> bool {
 
 // Returns whether the status of an entry makes the call.
 fn is_met(planted: Planted, site: &Site) -> bool {
-    let (path, _content, len, is_link) = *site;
+    let (path, content, is_link) = *site;
     let is_here = planted.0 == path;
     match planted.1 {
         Point::Lstat => is_here || is_above(planted, site),
         Point::Open => is_here && !is_link,
         Point::ReadLink => is_here && is_link,
         // The length of a file is known, and no more is read than that.
-        Point::Read(count) => is_here && !is_link && count < len,
+        Point::Read(count) => is_here && !is_link && count < content.len() as u64,
     }
 }
 
@@ -95,7 +95,7 @@ type Expected = (Vec<Wanted<'static>>, Result<Outcome, Fault>);
 fn expected_for(alloc: Global, planted: Option<Planted>) -> Result<Expected, AllocError> {
     let (mut records, mut lstats, mut files, mut bytes) = (Vec::new(alloc), 0usize, 0usize, 0u64);
     for (at, site) in SITES.iter().enumerate() {
-        let (path, content, len, _is_link) = *site;
+        let (path, content, _is_link) = *site;
         match planted {
             Some(planted) if is_met(planted, site) => {
                 if !is_absence(planted) {
@@ -107,7 +107,7 @@ fn expected_for(alloc: Global, planted: Option<Planted>) -> Result<Expected, All
             _ => {
                 lstats = lstats.saturating_add(1);
                 files = files.saturating_add(1);
-                bytes = bytes.saturating_add(len);
+                bytes = bytes.saturating_add(content.len() as u64);
                 records.push((at, path, Says::Changed(content)))?;
             }
         }
@@ -140,27 +140,30 @@ fn is_expected<R: AllocGlobal + Threads + Wait>(
 /// removed, the status is that without a fault.
 fn is_right_at<R: AllocGlobal + Threads + Wait>(
     rt: &R,
+    index: &State,
+    worktree: &mut MemoryWorktree,
     path: &'static str,
     point: Point,
 ) -> Result<bool, Fail> {
-    let (index, mut worktree) = (entries(rt.alloc())?, nodes(rt.alloc())?);
     for fault in FAULTS {
         worktree.plant(BStr::from(path), point, fault)?;
-        if !is_expected(rt, &index, &worktree, Some((path, point, fault)))? {
+        if !is_expected(rt, index, worktree, Some((path, point, fault)))? {
             return Ok(false);
         }
     }
     worktree.clear(BStr::from(path));
-    is_expected(rt, &index, &worktree, None)
+    is_expected(rt, index, worktree, None)
 }
 
 #[test]
 fn each_fault_at_each_call_ends_the_status_or_removes_an_entry(
     rt: HostRuntime,
 ) -> Result<(), Fail> {
+    let (index, mut worktree) = (entries(rt.alloc())?, nodes(rt.alloc())?);
     for path in ["a", FOLDER, "d/l", "z"] {
         for point in POINTS {
-            assert!(rt; is_right_at(&rt, path, point)?, "{point:?} of {path}");
+            let is_right = is_right_at(&rt, &index, &mut worktree, path, point)?;
+            assert!(rt; is_right, "{point:?} of {path}");
         }
     }
     Ok(())

@@ -142,9 +142,13 @@ where
 {
     let alloc = rt.alloc();
     let collector = Recorder::new(alloc);
-    let mut full = Full { collector, room };
+    let mut full = Full {
+        collector,
+        room,
+        flag: None,
+    };
     let request = plain_request(alloc);
-    let answer = report_to(rt, alloc, index, worktree, &mut full, HashEq, request, None);
+    let answer = report_to(rt, index, worktree, &mut full, HashEq, request, None);
     StatusReport {
         records: full.collector.records,
         answer,
@@ -153,20 +157,17 @@ where
 
 #[test]
 fn a_collector_that_is_refused_memory_ends_the_status(rt: HostRuntime) -> Result<(), Fail> {
-    let changed = Says::Changed(BAR);
-    let all: [Wanted<'_>; 3] = [(0, "a", changed), (1, "b", changed), (2, "c", changed)];
-    let nodes = [
-        later_file("a", b"bar"),
-        later_file("b", b"bar"),
-        later_file("c", b"bar"),
+    let gone: [Wanted<'_>; 3] = [
+        (0, "a", Says::Removed),
+        (1, "b", Says::Removed),
+        (2, "c", Says::Removed),
     ];
-    let index = foos(rt.alloc(), THREE)?;
-    let worktree = worktree(rt.alloc(), &nodes)?;
-    let cut = status_with_room(&rt, &index, &worktree, 2);
-    assert!(rt; are_records(&cut.records, &all[..2]));
-    assert!(rt; matches!(&cut.answer, Err(Error::Memory)));
-    let whole = status_with_room(&rt, &index, &worktree, 3);
-    assert!(rt; are_records(&whole.records, &all));
-    assert!(rt; whole.answer.is_ok());
+    let (index, worktree) = (foos(rt.alloc(), THREE)?, MemoryWorktree::new(rt.alloc()));
+    for room in [2, 3] {
+        let report = status_with_room(&rt, &index, &worktree, room);
+        let is_cut = matches!(&report.answer, Err(Error::Memory));
+        assert!(rt; are_records(&report.records, &gone[..room]), "{room}");
+        assert_eq!(rt; (is_cut, report.answer.is_ok()), (room < 3, room == 3));
+    }
     Ok(())
 }

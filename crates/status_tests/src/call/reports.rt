@@ -2,6 +2,7 @@
 
 use crate::support::inputs::stat;
 use crate::support::prelude::*;
+use gix_status::index::{HashKind, compute_hash};
 use gix_status::index_as_worktree::traits::HashEq;
 use gix_status::index_as_worktree::{Change, EntryStatus, Error, Options, Outcome, Record};
 use status_callers::statuses::{StatusReport, options, request_with, status_of};
@@ -27,24 +28,24 @@ where
     W::File: Send,
 {
     let request = request_with(rt.alloc(), by_pieces(chunk_size, Some(workers)));
-    status_of(rt, index, worktree, HashEq, request, None)
+    status_of(rt, index, worktree, HashEq, request)
 }
 
-/// The status of an entry whose executability doesn't change, and whose size isn't set to 0.
+/// The status of an entry whose size isn't set to 0.
 #[derive(Clone, Copy)]
-pub enum Says {
+pub enum Says<'a> {
     /// No file is there.
     Removed,
-    /// The file has another content.
-    Changed(ObjectId),
+    /// The file has this content, which is another one.
+    Changed(&'a [u8]),
+    /// Only its executability changed.
+    Executable,
     /// The file has the same content of three bytes, and was written after the entry was staged.
     Updated,
-    /// The file has the same content of three bytes, and was written when the entry was staged.
-    Racy,
 }
 
 /// The index position of a record, its path, and its status.
-pub type Wanted<'a> = (usize, &'a str, Says);
+pub type Wanted<'a> = (usize, &'a str, Says<'a>);
 
 /// Returns whether these are all the records of a status.
 pub fn are_records(records: &[Record<'_, ObjectId, ()>], wanted: &[Wanted<'_>]) -> bool {
@@ -64,13 +65,20 @@ pub fn is_at<T, U>(record: &Record<'_, T, U>, place: usize, path: &str) -> bool 
     record.entry_index == place && record.relative_path.as_bytes() == path.as_bytes()
 }
 
+/// Executability changed, and nothing else.
+const EXECUTABLE: Change<ObjectId, ()> = Change::Modification {
+    executable_bit_changed: true,
+    content_change: None,
+    set_entry_stat_size_zero: false,
+};
+
 /// Returns whether this is the status of an entry.
-pub fn is_said(status: &EntryStatus<ObjectId, ()>, says: Says) -> bool {
+pub fn is_said(status: &EntryStatus<ObjectId, ()>, says: Says<'_>) -> bool {
     match (says, status) {
         (Says::Removed, EntryStatus::Change(Change::Removed)) => true,
-        (Says::Changed(content), _) => is_changed(status, &content),
+        (Says::Changed(content), _) => is_changed(status, &compute_hash(HashKind::Sha1, content)),
+        (Says::Executable, EntryStatus::Change(change)) => *change == EXECUTABLE,
         (Says::Updated, EntryStatus::NeedsUpdate(found)) => *found == stat(LATER),
-        (Says::Racy, EntryStatus::NeedsUpdate(found)) => *found == stat(STAGED),
         _ => false,
     }
 }

@@ -1,7 +1,6 @@
 //! How far a status gets, with any number of workers: to the end, until it sees its flag set, or up to a fault.
 
 use crate::call::reports::{Says, by_pieces, is_said, read};
-use crate::call::statuses::interruptible_status;
 use crate::support::inputs::new_node;
 use crate::support::prelude::*;
 use crate::support::side_effects::{MANY_TURNS, OnLstat, WatchedWorktree};
@@ -9,8 +8,11 @@ use End::{Cut, Denied, Ended, Whole};
 use Event::{Caller, Collector, Lstat, Never};
 use Files::{Below, Changed, Gone};
 use OnLstat::{FindsLink, Meets, Nothing, SetsFlag};
-use gix_status::index_as_worktree::{Error, Outcome, Record};
+use gix_status::index_as_worktree::traits::HashEq;
+use gix_status::index_as_worktree::{Error, Options, Outcome, Record, Recorder};
 use gix_status::worktree::Point;
+use status_callers::collectors::Full;
+use status_callers::statuses::{StatusReport, report_to, report_without_threads, request_with};
 
 /// The files at the entries' paths, whose names are numbers of four digits.
 #[derive(Clone, Copy)]
@@ -104,14 +106,11 @@ static ROWS: [Row; 17] = [
 
 /// Without threads there are no rounds: the flag is checked before each entry and after each piece, whose records are
 /// reported before the next piece.
-static SERIAL: [Row; 7] = [
-    (2, Changed, 0, None, Caller, 0, Cut, (0, 0, 0)),
+static SERIAL: [Row; 4] = [
     (5, Changed, 5, None, AT_2, 3, Cut, (2, 1, 1)),
     (4, Changed, 1, None, AT_0, 1, Cut, (2, 0, 0)),
-    (5, Changed, 1, None, Collector, 1, Cut, (1, 0, 0)),
     (5, Gone, 4, None, Collector, 4, Cut, (4, 0, 0)),
     (5, Changed, 2, Some(0), Never, 3, Denied, (4, 0, 0)),
-    (5, Changed, 2, Some(64), Never, 5, Whole, (4, 1, 1)),
 ];
 
 // Returns the path of an entry.
@@ -169,7 +168,7 @@ fn is_ended(answer: &Result<Outcome, Error>, row: &Row) -> bool {
 // Returns whether there is a record of each entry that is processed.
 fn are_records(records: &[Record<'_, ObjectId, ()>], row: &Row) -> bool {
     let says = match row.1 {
-        Changed => Says::Changed(BAR),
+        Changed => Says::Changed(b"bar"),
         Gone | Below => Says::Removed,
     };
     for (at, record) in records.iter().enumerate() {
@@ -178,6 +177,39 @@ fn are_records(records: &[Record<'_, ObjectId, ()>], row: &Row) -> bool {
         }
     }
     records.len() == row.5
+}
+
+// Calls the status by ids with an interrupt flag, with or without threads. The collector sets `of_collector` at each
+// record.
+fn interruptible_status<'index, R: AllocGlobal + Threads + Wait, W: Worktree + Sync>(
+    rt: &R,
+    index: &'index State,
+    worktree: &W,
+    options: Options,
+    is_serial: bool,
+    of_collector: Option<&AtomicBool>,
+    interrupt: &AtomicBool,
+) -> StatusReport<'index, ObjectId, ()>
+where
+    W::File: Send,
+{
+    let alloc = rt.alloc();
+    let mut collector = Full {
+        collector: Recorder::new(alloc),
+        room: usize::MAX,
+        flag: of_collector,
+    };
+    let (found, flag) = (&mut collector, Some(interrupt));
+    let answer = if is_serial {
+        report_without_threads(alloc, index, worktree, found, NoLister, options, flag)
+    } else {
+        let request = request_with(alloc, options);
+        report_to(rt, index, worktree, found, HashEq, request, flag)
+    };
+    StatusReport {
+        records: collector.collector.records,
+        answer,
+    }
 }
 
 // Returns whether a status with threads or without gets as far as its row says.

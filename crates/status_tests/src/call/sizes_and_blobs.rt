@@ -2,8 +2,9 @@
 
 use crate::call::reports::{found, is_changed, is_report};
 use crate::support::prelude::*;
+use gix_status::index::{HashKind, compute_hash};
 use gix_status::index_as_worktree::traits::FastEq;
-use gix_status::index_as_worktree::{Error, Outcome};
+use gix_status::index_as_worktree::{Error, Outcome, Record};
 use gix_status::worktree::{Find, FindError};
 use status_callers::comparers::BlobLength;
 use status_callers::objects::FolderObjects;
@@ -18,21 +19,42 @@ fn sizes_are_compared_by_their_low_32_bits(rt: HostRuntime) -> Result<(), Fail> 
     let len = (1 << 32) + 3;
     let file = ("a", NodeKind::File, b"foo".as_slice(), len, Some(LATER));
     let worktree = worktree(rt.alloc(), &[file])?;
-    let report = status_of(
-        &rt,
-        &index,
-        &worktree,
-        FastEq,
-        plain_request(rt.alloc()),
-        None,
-    );
+    let request = plain_request(rt.alloc());
+    let report = status_of(&rt, &index, &worktree, FastEq, request);
     assert!(rt; report.records.is_empty());
     assert!(rt; matches!(&report.answer, Err(Error::Io(Fault::UnexpectedEnd))));
     Ok(())
 }
 
 /// The entries `a` and `b`, of other contents.
-const ENTRIES: [EntryRow<'static>; 2] = [("a", 0, Mode::File, FOO), ("b", 0, Mode::File, BAR)];
+const ENTRIES: [EntryRow<'static>; 2] = [
+    ("a", 0, Mode::File, b"foo"),
+    ("b", 0, Mode::File, b"bar"),
+];
+
+// Returns whether these are so many records, each of a file of four bytes.
+fn are_lengths(records: &[Record<'_, u64, ()>], count: usize) -> bool {
+    for (at, record) in records.iter().enumerate() {
+        if record.entry_index != at || !is_changed(&record.status, &4) {
+            return false;
+        }
+    }
+    records.len() == count
+}
+
+// Returns whether a status read the blob of each entry, of three bytes, or failed because a blob is missing.
+fn is_ended(answer: &Result<Outcome, Error>, entries: usize, is_missing: bool) -> bool {
+    let wanted = Outcome {
+        odb_objects_read: entries,
+        odb_bytes: (entries as u64).saturating_mul(3),
+        ..found(entries)
+    };
+    match answer {
+        Ok(outcome) => !is_missing && *outcome == wanted,
+        Err(Error::Find(FindError::Missing)) => is_missing,
+        Err(_) => false,
+    }
+}
 
 /// Returns whether a status by the lengths of blobs has so many records, each of a file of four bytes. It reads the
 /// blob of each entry, of three bytes, or fails because a blob is missing.
@@ -47,54 +69,19 @@ fn has_lengths<R: AllocGlobal + Threads + Wait, O: Find + Send>(
     let nodes = [later_file("a", b"bars"), later_file("b", b"bars")];
     let worktree = worktree(rt.alloc(), &nodes)?;
     let request = StatusRequest::new(NoSubmodules, objects, AllPaths, NoFilter, options());
-    let report = status_of(rt, &index, &worktree, BlobLength, request, None);
-    for (at, record) in report.records.iter().enumerate() {
-        if record.entry_index != at || !is_changed(&record.status, &4) {
-            return Ok(false);
-        }
-    }
-    let wanted = Outcome {
-        odb_objects_read: entries.len(),
-        odb_bytes: (entries.len() as u64).saturating_mul(3),
-        ..found(entries.len())
-    };
-    let is_ended = match &report.answer {
-        Ok(outcome) => !is_missing && *outcome == wanted,
-        Err(Error::Find(FindError::Missing)) => is_missing,
-        Err(_) => false,
-    };
-    Ok(is_ended && report.records.len() == records)
+    let report = status_of(rt, &index, &worktree, BlobLength, request);
+    let is_ended = is_ended(&report.answer, entries.len(), is_missing);
+    Ok(is_ended && are_lengths(&report.records, records))
 }
 
 #[test]
 fn a_comparer_may_read_the_blob(rt: HostRuntime) -> Result<(), Fail> {
     let mut objects = MemoryObjects::new(rt.alloc());
-    objects.put(FOO, b"foo")?;
+    objects.put(compute_hash(HashKind::Sha1, b"foo"), b"foo")?;
     assert!(rt; has_lengths(&rt, &ENTRIES[..1], objects, 1, false)?);
     let objects = MemoryObjects::new(rt.alloc());
     assert!(rt; has_lengths(&rt, &ENTRIES[..1], objects, 0, true)?);
     Ok(())
-}
-
-/// The same with the blobs in a folder of the disk.
-fn has_lengths_by<R: AllocGlobal + Files + Sync + Threads + Wait>(
-    rt: &R,
-    entries: &[EntryRow<'_>],
-    folder: &str,
-    records: usize,
-    is_missing: bool,
-) -> Result<bool, Fail>
-where
-    R::File: Send,
-    R::Dir: Send,
-{
-    has_lengths(
-        rt,
-        entries,
-        FolderObjects { rt, folder },
-        records,
-        is_missing,
-    )
 }
 
 #[test]
@@ -103,13 +90,17 @@ fn blobs_may_lie_in_a_folder(rt: HostRuntime) -> Result<(), Fail> {
     let root = folder.as_str();
     let foo = "19102815663d23f8b75a47e7a01965dcdc96468c";
     fill(&rt, root, &[(foo, FolderNode::File("foo"))])?;
-    assert!(rt; has_lengths_by(&rt, &ENTRIES, "/no/such/folder", 0, true)?);
-    assert!(rt; has_lengths_by(&rt, &ENTRIES[..1], root, 1, false)?);
-    assert!(rt; has_lengths_by(&rt, &ENTRIES, root, 1, true)?);
-    // A directory can't be read as a blob. The interface has no other error for that.
+    let objects = FolderObjects {
+        rt: &rt,
+        folder: root,
+    };
+    assert!(rt; has_lengths(&rt, &ENTRIES[..1], objects, 1, false)?);
+    // A directory can't be read as a blob. The interface has no other error for that, or for a file that isn't there.
     let bar = "ba0e162e1c47469e3fe4b393a8bf8c569f302116";
-    fill(&rt, root, &[(bar, FolderNode::Folder)])?;
-    assert!(rt; has_lengths_by(&rt, &ENTRIES, root, 1, true)?);
+    for nodes in [[].as_slice(), &[(bar, FolderNode::Folder)]] {
+        fill(&rt, root, nodes)?;
+        assert!(rt; has_lengths(&rt, &ENTRIES, objects, 1, true)?);
+    }
     fs::remove_dir_all(&rt, root)?;
     Ok(())
 }

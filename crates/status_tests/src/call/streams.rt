@@ -1,11 +1,10 @@
 //! Streams of files: how they end, and ids of their first bytes.
 
-use crate::support::contents::FOO;
 use crate::support::pieces::Piece;
 use crate::support::prelude::*;
 use status_base::worktree::ToGitOutcome;
 use status_compare::Stream;
-use status_index::{HashKind, compute_stream_hash};
+use status_index::{HashKind, compute_hash, compute_stream_hash};
 use std::io::{ErrorKind, Read};
 
 // Returns a reader of `foo`, which then has this fault, if any.
@@ -18,18 +17,14 @@ fn foo(fault: Option<Fault>) -> Piece<'static> {
 
 #[test]
 fn a_reader_is_hashed_to_a_length(rt: HostRuntime) {
-    let planted = Some(Fault::Other(5));
+    let (planted, of_foo) = (Some(Fault::Other(5)), compute_hash(HashKind::Sha1, b"foo"));
     for (fault, len, want) in [
-        (None, 3, Ok(FOO)),
+        (None, 3, Ok(of_foo)),
         (None, 4, Err(Fault::UnexpectedEnd)),
-        (planted, 3, Ok(FOO)),
+        (planted, 3, Ok(of_foo)),
         (planted, 4, Err(Fault::Other(5))),
     ] {
-        let found: Result<ObjectId, Fault> = compute_stream_hash(
-            HashKind::Sha1,
-            &mut foo(fault),
-            len,
-        );
+        let found = compute_stream_hash(HashKind::Sha1, &mut foo(fault), len);
         assert_eq!(rt; found, want);
     }
 }

@@ -78,38 +78,41 @@ fn is_failed(report: &StatusReport<'_, ObjectId, usize>, path: &str) -> bool {
     }
 }
 
+fn is_judged(report: &StatusReport<'_, ObjectId, usize>, entries: usize, verdict: Verdict) -> bool {
+    let is_whole = is_taken(&report.answer, &found(entries));
+    match verdict {
+        Verdict::Nothing => is_whole && report.records.is_empty(),
+        Verdict::Changed(at, count) => is_whole && is_changed(report, at, count),
+        Verdict::Fails => report.records.is_empty() && is_failed(report, "sub"),
+    }
+}
+
 // Returns whether the status of a folder with submodules, in pieces of one entry, has the report of its row.
-fn is_right<R: AllocGlobal + Files + Sync + Threads + Wait>(
+fn is_right<R: AllocGlobal + Threads + Wait>(
     rt: &R,
     system: &HostRuntime,
     root: &str,
     row: &Row,
 ) -> Result<bool, Fail> {
     let (adds, paths, entries, workers, verdict) = *row;
-    fill(rt, root, adds)?;
+    fill(system, root, adds)?;
     let mut submodules = Vec::new(rt.alloc());
     for path in paths {
-        submodules.push((*path, 0, Mode::Commit, FOO))?;
+        submodules.push((*path, 0, Mode::Commit, b"foo".as_slice()))?;
     }
     let superproject = index(rt.alloc(), &submodules)?;
     let own_index = foos(rt.alloc(), entries)?;
     let worktree = DiskWorktree::new(system, Path::new(root))?;
     let submodules = FolderSubmodules {
-        rt,
-        system,
+        rt: system,
         root,
         index: &own_index,
     };
     let options = by_pieces(1, Some(workers));
     let objects = MemoryObjects::new(rt.alloc());
     let request = StatusRequest::new(submodules, objects, AllPaths, NoFilter, options);
-    let report = status_of(rt, &superproject, &worktree, HashEq, request, None);
-    let is_whole = is_taken(&report.answer, &found(paths.len()));
-    Ok(match verdict {
-        Verdict::Nothing => is_whole && report.records.is_empty(),
-        Verdict::Changed(at, count) => is_whole && is_changed(&report, at, count),
-        Verdict::Fails => report.records.is_empty() && is_failed(&report, "sub"),
-    })
+    let report = status_of(rt, &superproject, &worktree, HashEq, request);
+    Ok(is_judged(&report, paths.len(), verdict))
 }
 
 #[test]
@@ -122,41 +125,52 @@ fn submodules_may_have_statuses_of_their_own(rt: HostRuntime) -> Result<(), Fail
     Ok(())
 }
 
-/// Returns whether a status by ids of the submodule `sub` reports the result of that interface: no change, a number, or
-/// a fault with a text.
-fn is_submodule_reported<R: AllocGlobal + Threads + Wait>(
-    rt: &R,
+// Returns whether a status reports the result of an interface for `sub`: no change, a number, or a fault with a text.
+fn is_reported(
+    report: &StatusReport<'_, ObjectId, u32>,
     answer: Result<Option<u32>, &[u8]>,
-) -> Result<bool, Fail> {
-    let alloc = rt.alloc();
-    let index = index(alloc, &[("sub", 0, Mode::Commit, FOO)])?;
-    let directory = ("sub", NodeKind::Directory, b"".as_slice(), 0, Some(STAGED));
-    let worktree = worktree(alloc, &[directory])?;
-    let (submodule, objects) = (Alike { alloc, answer }, MemoryObjects::new(alloc));
-    let request = StatusRequest::new(submodule, objects, AllPaths, NoFilter, options());
-    let report = status_of(rt, &index, &worktree, HashEq, request, None);
+) -> bool {
     let change = match report.records.as_slice() {
         [] => None,
         [record] if is_at(record, 0, "sub") => match &record.status {
             EntryStatus::Change(Change::SubmoduleModification(found)) => Some(*found),
-            _ => return Ok(false),
+            _ => return false,
         },
-        _ => return Ok(false),
+        _ => return false,
     };
-    Ok(match (answer, &report.answer) {
+    match (answer, &report.answer) {
         (Ok(wanted), _) => is_taken(&report.answer, &found(1)) && change == wanted,
         (Err(wanted), Err(Error::SubmoduleStatus { rela_path, text })) => {
             let is_at_sub = rela_path.as_bytes() == b"sub".as_slice();
             change.is_none() && is_at_sub && text.as_bytes() == wanted
         }
         _ => false,
-    })
+    }
+}
+
+/// Returns whether a status by ids of the submodule `sub` reports the result of this interface.
+fn is_submodule_reported<R: AllocGlobal + Threads + Wait>(
+    rt: &R,
+    submodule: Alike<'_>,
+) -> Result<bool, Fail> {
+    let (alloc, answer) = (rt.alloc(), submodule.answer);
+    let index = index(alloc, &[("sub", 0, Mode::Commit, b"foo")])?;
+    let directory = ("sub", NodeKind::Directory, b"".as_slice(), 0, Some(STAGED));
+    let worktree = worktree(alloc, &[directory])?;
+    let objects = MemoryObjects::new(alloc);
+    let request = StatusRequest::new(submodule, objects, AllPaths, NoFilter, options());
+    let report = status_of(rt, &index, &worktree, HashEq, request);
+    Ok(is_reported(&report, answer))
 }
 
 #[test]
 fn a_submodule_has_the_status_that_the_interface_returns(rt: HostRuntime) -> Result<(), Fail> {
-    assert!(rt; is_submodule_reported(&rt, Ok(None))?);
-    assert!(rt; is_submodule_reported(&rt, Ok(Some(7)))?);
-    assert!(rt; is_submodule_reported(&rt, Err(b"x"))?);
+    let alloc = rt.alloc();
+    for answer in [Ok(None), Ok(Some(7)), Err(b"x".as_slice())] {
+        assert!(rt;
+            is_submodule_reported(&rt, Alike { alloc, answer })?,
+            "{answer:?}"
+        );
+    }
     Ok(())
 }

@@ -1,9 +1,9 @@
 //! The joined call over a folder of the disk.
 
-use crate::joined::record_lines::lines_of;
+use crate::joined::record_lines::{end_of, lines_of};
 use crate::support::prelude::*;
 use status_callers::joined::statuses::{JoinedRequest, joined};
-use status_rewrites::IdentityTracker;
+use status_rewrites::{IdentityTracker, Rewrites};
 use status_walk::DiskWalk;
 use std::fs;
 
@@ -15,25 +15,53 @@ const NODES: [(&str, FolderNode<'static>); 4] = [
     ("d/l", FolderNode::Link("c")),
 ];
 
-// Asserts the report of a folder, with an index that has a file `a` of the content `foo`.
+/// The content of the entry `a`, whether empty files are renamed, the lines of the report, and how the call ends.
+type Row = (&'static [u8], bool, &'static str, &'static str);
+
+const ONE_RENAME: &str = "cut None, walk Some((3, false)), pairs Some((1, 0))";
+
+static ROWS: [Row; 3] = [
+    (
+        b"foo",
+        false,
+        "- Added Untracked c\n- Renamed a d/b\n- Added Untracked d/l\n",
+        ONE_RENAME,
+    ),
+    (
+        b"",
+        false,
+        "0 Removed a\n- Added Untracked c\n- Added Untracked d/b\n- Added Untracked d/l\n",
+        "cut None, walk Some((3, false)), pairs Some((0, 0))",
+    ),
+    (
+        b"",
+        true,
+        "- Renamed a c\n- Added Untracked d/b\n- Added Untracked d/l\n",
+        ONE_RENAME,
+    ),
+];
+
+// Asserts the report of a folder, with an index that has a file `a`.
 fn assert_reported<R: AllocGlobal + Abort + Files + Sync + Threads + Wait>(
     rt: &R,
     root: &str,
-    lines: &str,
+    row: &Row,
 ) -> Result<(), Fail>
 where
     R::File: Send,
     R::Dir: Send,
 {
+    let (content, track_empty, lines, end) = *row;
     let alloc = rt.alloc();
-    let index = foos(alloc, &["a"])?;
+    let index = index(alloc, &[("a", 0, Mode::File, content)])?;
     let worktree = DiskWorktree::new(rt, Path::new(root))?;
     let walk = DiskWalk::new(rt, Path::new(root))?;
-    let request = JoinedRequest::rewritten(walk, IdentityTracker::new(alloc));
-    let report = joined(rt, &index, &worktree, request);
+    let rewrites = Some(Rewrites { track_empty });
+    let request = JoinedRequest::new(walk, IdentityTracker::new(alloc), rewrites);
+    let report = joined(rt, &index, &worktree, NoSubmodules, request);
     let text = lines_of(alloc, &report.records)?;
     assert_eq!(rt; text.as_str(), lines);
-    assert!(rt; report.answer.is_ok());
+    assert_eq!(rt; end_of(alloc, &report.answer)?.as_str(), end);
     Ok(())
 }
 
@@ -41,8 +69,9 @@ where
 fn a_folder_has_untracked_files_and_renames(rt: HostRuntime) -> Result<(), Fail> {
     let folder = own_folder(&rt, "a_folder_has_untracked_files")?;
     fill(&rt, folder.as_str(), &NODES)?;
-    let lines = "- Added Untracked c\n- Renamed a d/b\n- Added Untracked d/l\n";
-    assert_reported(&rt, folder.as_str(), lines)?;
+    for row in &ROWS {
+        assert_reported(&rt, folder.as_str(), row)?;
+    }
     fs::remove_dir_all(&rt, folder.as_str())?;
     Ok(())
 }

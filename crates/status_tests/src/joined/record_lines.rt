@@ -6,7 +6,7 @@ use status_joined::index_as_worktree_with_renames::{Entry, Error, Outcome};
 use std::fmt::Debug;
 
 /// Returns a line for each record, in order: its index position or `-`, its summary or the change of a submodule, the status
-/// of an untracked file, and its path. A rename or a copy has both paths.
+/// of an untracked file, and its path. A rename or a copy has both paths, and says whether the file's id is null.
 pub fn lines_of<U: Debug>(
     alloc: Global,
     records: &[Entry<'_, ObjectId, U>],
@@ -36,30 +36,40 @@ fn line<U: Debug>(alloc: Global, record: &Entry<'_, ObjectId, U>) -> Result<Stri
         Entry::DirectoryContents { entry, .. } => {
             format!(in alloc; "- {word} {:?} {source}\n", entry.status)
         }
-        Entry::Rewrite { .. } => format!(in alloc; "- {word} {source} {destination}\n"),
+        Entry::Rewrite {
+            dirwalk_entry_id,
+            ..
+        } => {
+            let id = if dirwalk_entry_id.is_null() {
+                " null"
+            } else {
+                ""
+            };
+            format!(in alloc; "- {word} {source} {destination}{id}\n")
+        }
     }
 }
 
-/// Returns the line of a call's result: how many entries were processed, if the call was interrupted, how many nodes the
-/// walk passed, if there was one, and how many renames and copies there are, if they were searched for; or the error.
+/// Returns the line of a call's result: how many entries were processed and how often `lstat` was called on one, if the
+/// call was interrupted; how many nodes the walk passed, and whether it was cancelled; how many renames and copies there
+/// are. Or the error.
 pub fn end_of(alloc: Global, answer: &Result<Outcome, Error>) -> Result<String, AllocError> {
     let outcome = match answer {
         Ok(outcome) => outcome,
         Err(error) => return format!(in alloc; "{error:?}"),
     };
-    let mut text = String::new(alloc);
     let tracked = &outcome.tracked_file_modification;
-    if tracked.interrupted {
-        let (processed, lstats) = (tracked.entries_processed, tracked.symlink_metadata_calls);
-        text.push_str(&format!(in alloc; "cut after {processed}, {lstats}; ")?)?;
-    }
-    if let Some(walk) = &outcome.dirwalk {
-        let end = if walk.cancelled { ", cancelled" } else { "" };
-        text.push_str(&format!(in alloc; "{} nodes{end}", walk.emitted)?)?;
-    }
-    if let Some(pairs) = &outcome.rewrites {
-        let (renames, copies) = (pairs.renames, pairs.copies);
-        text.push_str(&format!(in alloc; "; {renames} renames, {copies} copies")?)?;
-    }
-    Ok(text)
+    let lstats = tracked.symlink_metadata_calls;
+    let cut = tracked
+        .interrupted
+        .then_some((tracked.entries_processed, lstats));
+    let walk = match &outcome.dirwalk {
+        Some(walk) => Some((walk.emitted, walk.cancelled)),
+        None => None,
+    };
+    let pairs = match &outcome.rewrites {
+        Some(pairs) => Some((pairs.renames, pairs.copies)),
+        None => None,
+    };
+    format!(in alloc; "cut {cut:?}, walk {walk:?}, pairs {pairs:?}")
 }

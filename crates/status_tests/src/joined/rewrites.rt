@@ -1,91 +1,93 @@
-//! Renames by equal content, the copies of a tracker of the caller's, and pairs that break a rule.
+//! Renames and copies that a tracker of the caller's finds, pairs that break a rule, and faults.
 
-use crate::joined::interfaces::{TrackerKind, WalkKind};
-use crate::joined::rows::{A, FILE_B, FILE_C, REWRITTEN, Row, is_right};
+use crate::joined::rows::{A, FILE_B, FILE_C, PLAIN, RENAMES, Row, is_right};
 use crate::support::prelude::*;
-use TrackerKind::{Answers, SeesNull};
-use WalkKind::Passes;
+use NodeKind::File;
 use status_callers::joined::broken::Point;
 use status_callers::joined::trackers::PlannedPair::{Copied, Renamed};
-use status_callers::joined::walks::B;
-use status_rewrites::Rewrites;
+use status_callers::joined::walks::{B, C};
 
-const ENTRY_B: EntryRow<'static> = ("b", 0, Mode::File, FOO);
+/// The entry `a` has other content, and `b` is untracked.
+const MODIFIED: Row<'static> = Row {
+    entries: &[A],
+    nodes: &[("a", File, b"bar", 3, Some(LATER)), FILE_B],
+    found: &[B],
+    rewrites: RENAMES,
+    ..PLAIN
+};
 
-const LATER_A: NodeRow<'static> = ("a", NodeKind::File, b"bar", 3, Some(LATER));
+/// The copied file is reported by itself too.
+const COPIED: Row<'static> = Row {
+    pairs: &[Copied(0, 1)],
+    lines: "0 Modified a\n- Copied a b\n",
+    end: "cut None, walk Some((1, false)), pairs Some((0, 1))",
+    ..MODIFIED
+};
 
-const EMPTY_A: EntryRow<'static> = ("a", 0, Mode::File, EMPTY);
+/// The entries `a` and `b` are gone, and `c` is untracked.
+const GONE: Row<'static> = Row {
+    entries: &[A, ("b", 0, Mode::File, b"foo")],
+    nodes: &[FILE_C],
+    found: &[C],
+    rewrites: RENAMES,
+    ..PLAIN
+};
 
-static ROWS: [Row; 4] = [
+/// The untracked file may not be read.
+const LOCKED: &[(Point, &str, Fault)] = &[(Point::Open, "b", Fault::PermissionDenied)];
+
+static ROWS: [Row; 8] = [
     // The rename is reported by the path of its destination.
     Row {
-        entries: &[A, ENTRY_B],
-        nodes: &[FILE_C],
+        pairs: &[Renamed(0, 2)],
         lines: "1 Removed b\n- Renamed a c\n",
-        end: "1 nodes; 1 renames, 0 copies",
-        ..REWRITTEN
+        end: "cut None, walk Some((1, false)), pairs Some((1, 0))",
+        ..GONE
     },
-    // Empty files are renamed if they are tracked.
-    Row {
-        entries: &[EMPTY_A],
-        nodes: &[("b", NodeKind::File, b"", 0, Some(STAGED))],
-        rewrites: Some(Rewrites { track_empty: true }),
-        lines: "- Renamed a b\n",
-        end: "1 nodes; 1 renames, 0 copies",
-        ..REWRITTEN
-    },
-    // The copied file is reported by itself too.
-    Row {
-        entries: &[A],
-        nodes: &[LATER_A, FILE_B],
-        tracker: Answers(&[Copied(0, 1)]),
-        lines: "0 Modified a\n- Copied a b\n",
-        end: "1 nodes; 0 renames, 1 copies",
-        ..REWRITTEN
-    },
+    COPIED,
     // A file that may not be read has the null id.
     Row {
-        nodes: &[FILE_B],
-        faults: &[(Point::Open, "b", Fault::PermissionDenied)],
-        walk: Passes(&[B], None),
-        tracker: SeesNull,
-        lines: "- Added Untracked b\n",
-        end: "1 nodes; 0 renames, 0 copies",
-        ..REWRITTEN
+        faults: LOCKED,
+        lines: "0 Modified a\n- Copied a b null\n",
+        ..COPIED
     },
-];
-
-#[test]
-fn renames_and_copies_are_reported_as_the_tracker_finds_them(rt: HostRuntime) -> Result<(), Fail> {
-    for (at, row) in ROWS.iter().enumerate() {
-        assert!(rt; is_right(&rt, row)?, "row {at}");
-    }
-    Ok(())
-}
-
-static BAD_PAIRS: [Row; 2] = [
+    Row {
+        faults: LOCKED,
+        lines: "0 Modified a\n- Added Untracked b\n",
+        end: "cut None, walk Some((1, false)), pairs Some((0, 0))",
+        ..MODIFIED
+    },
+    // Another fault is an error, and nothing is reported.
+    Row {
+        faults: &[(Point::Open, "b", Fault::Other(7))],
+        end: "OpenWorktreeFile(Other(7))",
+        ..MODIFIED
+    },
+    // The walk's fault is returned before that of an entry.
+    Row {
+        faults: &[(Point::Open, "a", Fault::Other(1))],
+        walk_fault: Some(("d", Fault::Other(6))),
+        end: "DirWalk(Fault { rela_path: \"d\", fault: Other(6) })",
+        ..MODIFIED
+    },
     // A modified file is not renamed.
     Row {
-        entries: &[A],
-        nodes: &[LATER_A, FILE_B],
-        tracker: Answers(&[Renamed(0, 1)]),
+        pairs: &[Renamed(0, 1)],
         end: "RewriteTracker(BadPair { at: 0 })",
-        ..REWRITTEN
+        ..MODIFIED
     },
     // Two files are not renamed to one.
     Row {
-        entries: &[A, ENTRY_B],
-        nodes: &[FILE_C],
-        tracker: Answers(&[Renamed(0, 2), Renamed(1, 2)]),
+        pairs: &[Renamed(0, 2), Renamed(1, 2)],
         end: "RewriteTracker(BadPair { at: 1 })",
-        ..REWRITTEN
+        ..GONE
     },
 ];
 
 #[test]
-fn a_pair_that_breaks_a_rule_ends_the_status(rt: HostRuntime) -> Result<(), Fail> {
-    for row in &BAD_PAIRS {
-        assert!(rt; is_right(&rt, row)?, "{}", row.end);
+fn renames_copies_and_faults_are_reported(rt: HostRuntime) -> Result<(), Fail> {
+    for row in &ROWS {
+        assert!(rt; is_right(&rt, row)?, "{}, {}", row.lines, row.end);
     }
     Ok(())
 }

@@ -1,16 +1,18 @@
 //! Rows: a small index, a worktree, the arguments of the call, and its report.
 
-use crate::joined::interfaces::{RowSubmodules, RowTracker, RowWalk, TrackerKind, WalkKind};
 use crate::joined::record_lines::{end_of, lines_of};
 use crate::support::prelude::*;
 use status_callers::joined::broken::{Broken, Point};
-use status_callers::joined::statuses::{JoinedRequest, options, report_to};
-use status_joined::index_as_worktree_with_renames::{Entry, Error, Options, Outcome, Recorder};
-use status_rewrites::{Rewrites, Tracker};
-use status_walk::Walk;
+use status_callers::joined::statuses::{JoinedRequest, joined, options};
+use status_callers::joined::trackers::{Answers, PlannedPair};
+use status_callers::joined::walks::{Found, Passes};
+use status_callers::submodules::Alike;
+use status_joined::index_as_worktree_with_renames::Options;
+use status_rewrites::Rewrites;
+use status_walk::{UntrackedWalk, Walk};
 
 /// The plain entry `a`.
-pub const A: EntryRow<'static> = ("a", 0, Mode::File, FOO);
+pub const A: EntryRow<'static> = ("a", 0, Mode::File, b"foo");
 
 /// The files `b` and `c`, of the content `foo`.
 pub const FILE_B: NodeRow<'static> = ("b", NodeKind::File, b"foo", 3, Some(STAGED));
@@ -23,10 +25,13 @@ pub struct Row<'a> {
     pub entries: &'a [EntryRow<'a>],
     pub nodes: &'a [NodeRow<'a>],
     pub faults: &'a [(Point, &'a str, Fault)],
-    pub walk: WalkKind<'a>,
-    pub tracker: TrackerKind<'a>,
+    /// The nodes that the walk passes, and the path and the fault with which it ends, if it fails.
+    pub found: &'a [Found<'a>],
+    pub walk_fault: Option<(&'a str, Fault)>,
+    /// The pairs that the tracker returns.
+    pub pairs: &'a [PlannedPair],
     /// The change that each submodule reports.
-    pub submodules: Option<Option<u64>>,
+    pub submodules: Option<u32>,
     pub sorted: bool,
     pub dirwalk: bool,
     pub rewrites: Option<Rewrites>,
@@ -35,8 +40,6 @@ pub struct Row<'a> {
     pub lines: &'a str,
     /// How it ends.
     pub end: &'a str,
-    /// Whether the walk, `lstat` or `open` of `b`, and the tracker are called, if that counts.
-    pub called: Option<(bool, bool, bool)>,
 }
 
 /// An empty index and an empty worktree. It is walked, the list is sorted, and no renames are looked for.
@@ -44,111 +47,83 @@ pub const PLAIN: Row<'static> = Row {
     entries: &[],
     nodes: &[],
     faults: &[],
-    walk: WalkKind::Untracked,
-    tracker: TrackerKind::Identity,
+    found: &[],
+    walk_fault: None,
+    pairs: &[],
     submodules: None,
     sorted: true,
     dirwalk: true,
     rewrites: None,
     flag: None,
     lines: "",
-    end: "",
-    called: None,
+    end: "cut None, walk None, pairs None",
 };
 
 /// Renames and copies, except those of empty files.
 pub const RENAMES: Option<Rewrites> = Some(Rewrites { track_empty: false });
 
-/// The same with renames and copies.
-pub const REWRITTEN: Row<'static> = Row {
-    rewrites: RENAMES,
-    ..PLAIN
-};
-
-/// The records of the call's collector, and its result.
-#[derive(Drop)]
-struct Report<'index> {
-    records: Vec<Entry<'index, ObjectId, Option<u64>>>,
-    answer: Result<Outcome, Error>,
+fn options_of(row: &Row<'_>) -> Options {
+    let mut options = options(row.rewrites);
+    if !row.sorted {
+        options.sorting = None;
+    }
+    options.dirwalk = row.dirwalk;
+    options
 }
 
-// Makes the joined call over any worktree.
-fn report_by<
-    'index,
-    R: AllocGlobal + Threads + Wait,
-    W: Worktree + Sync,
-    K: Walk<W> + Send + Drop,
-    X: Tracker + Drop,
->(rt: &R, index: &'index State, worktree: &W, walk: K, tracker: X, row: &Row<'_>) -> Report<'index>
+// Returns whether the call has the report of a row, over any worktree with any walk.
+fn is_reported<R: AllocGlobal + Threads + Wait, W: Worktree + Sync, K: Walk<W> + Send + Drop>(
+    rt: &R,
+    worktree: &W,
+    walk: K,
+    row: &Row<'_>,
+) -> Result<bool, Fail>
 where
     W::File: Send,
 {
-    let alloc = rt.alloc();
-    let flag = AtomicBool::new(row.flag == Some(true));
-    let mut recorder = Recorder::new(alloc);
-    let submodules = RowSubmodules {
-        change: row.submodules,
-    };
-    let usual = options(row.rewrites);
+    let (alloc, flag) = (rt.alloc(), AtomicBool::new(row.flag == Some(true)));
+    let index = index(alloc, row.entries)?;
     let request = JoinedRequest {
         walk,
-        tracker,
-        options: Options {
-            sorting: if row.sorted { usual.sorting } else { None },
-            dirwalk: row.dirwalk,
-            ..usual
+        tracker: Answers {
+            alloc,
+            pairs: row.pairs,
         },
+        options: options_of(row),
         interrupt: row.flag.is_some().then_some(&flag),
     };
-    let answer = report_to(
-        rt,
+    let submodules = Alike {
         alloc,
-        index,
-        worktree,
-        &mut recorder,
-        submodules,
-        NoFilter,
-        NoLister,
-        request,
+        answer: Ok(row.submodules),
+    };
+    let report = joined(rt, &index, worktree, submodules, request);
+    let (lines, end) = (
+        lines_of(alloc, &report.records)?,
+        end_of(alloc, &report.answer)?,
     );
-    Report {
-        records: recorder.records,
-        answer,
-    }
+    Ok(lines.as_str() == row.lines && end.as_str() == row.end)
 }
 
 /// Returns whether the call has the report of a row.
 pub fn is_right<R: AllocGlobal + Threads + Wait>(rt: &R, row: &Row<'_>) -> Result<bool, Fail> {
     let alloc = rt.alloc();
-    let (calls, walked, tracked) = (Calls::new(), AtomicBool::new(false), AtomicBool::new(false));
-    let index = index(alloc, row.entries)?;
-    let broken = Broken {
+    let worktree = Broken {
         worktree: worktree(alloc, row.nodes)?,
         faults: row.faults,
     };
-    let worktree = counted(broken, "b", &calls);
-    let walk = RowWalk {
+    let walk = Passes {
         alloc,
-        kind: row.walk,
-        nodes: &worktree.worktree.worktree,
-        called: &walked,
+        nodes: row.found,
+        fault: row.walk_fault,
     };
-    let tracker = RowTracker {
-        alloc,
-        kind: row.tracker,
-        called: &tracked,
-    };
-    let report = report_by(rt, &index, &worktree, walk, tracker, row);
-    let lines = lines_of(alloc, &report.records)?;
-    let end = end_of(alloc, &report.answer)?;
-    let called = (
-        walked.load(Ordering::SeqCst),
-        calls.made() != (0, 0),
-        tracked.load(Ordering::SeqCst),
-    );
-    Ok(
-        lines.as_str() == row.lines
-            && end.as_str() == row.end
-            && (row.called.is_none() || row.called == Some(called)),
-    )
+    is_reported(rt, &worktree, walk, row)
+}
+
+/// Returns the same, if the worktree has no fault and is walked by `UntrackedWalk`.
+pub fn is_right_untracked<R: AllocGlobal + Threads + Wait>(
+    rt: &R,
+    row: &Row<'_>,
+) -> Result<bool, Fail> {
+    let worktree = worktree(rt.alloc(), row.nodes)?;
+    is_reported(rt, &worktree, UntrackedWalk::new(rt.alloc()), row)
 }

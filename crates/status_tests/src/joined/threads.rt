@@ -8,7 +8,6 @@ use crate::support::prelude::*;
 use crate::support::side_effects::{MANY_TURNS, OnLstat, WatchedWorktree, comes};
 use OnLstat::{AwaitsFlag, Meets};
 use status_base::worktree::Pathspec;
-use status_call::index_as_worktree;
 use status_callers::joined::statuses::{JoinedRequest, joined, options};
 use status_callers::joined::walks::{B, C, Found, UNTRACKED, emit_nodes};
 use status_joined::index_as_worktree_with_renames::Options;
@@ -80,10 +79,17 @@ const ALL: &str =
 
 const CUT: &str = "0 Removed a\n- Added Untracked b\n- Added Untracked c\n";
 
-const CUT_END: &str = "cut after 1, 1; 2 nodes, cancelled";
+const CUT_END: &str = "cut Some((1, 1)), walk Some((2, true)), pairs None";
 
 static ROWS: [Row; 5] = [
-    (HALVES, false, None, None, ALL, "3 nodes"),
+    (
+        HALVES,
+        false,
+        None,
+        None,
+        ALL,
+        "cut None, walk Some((3, false)), pairs None",
+    ),
     // The nodes that were found before the flag was seen are reported, also with renames.
     (HALVES, true, None, None, CUT, CUT_END),
     (
@@ -92,9 +98,16 @@ static ROWS: [Row; 5] = [
         RENAMES,
         None,
         "- Renamed a b\n- Added Untracked c\n",
-        "cut after 1, 1; 2 nodes, cancelled; 1 renames, 0 copies",
+        "cut Some((1, 1)), walk Some((2, true)), pairs Some((1, 0))",
     ),
-    (WORKERS, false, None, Some(2), ALL, "3 nodes"),
+    (
+        WORKERS,
+        false,
+        None,
+        Some(2),
+        ALL,
+        "cut None, walk Some((3, false)), pairs None",
+    ),
     // One worker is at one path at a time.
     (
         Meets("a", "e", 1000),
@@ -107,15 +120,10 @@ static ROWS: [Row; 5] = [
 ];
 
 fn options_of(rewrites: Option<Rewrites>, workers: Option<usize>) -> Options {
-    let usual = options(rewrites);
-    Options {
-        tracked_file_modifications: index_as_worktree::Options {
-            chunk_size: if workers.is_some() { 1 } else { 100 },
-            thread_limit: workers,
-            ..usual.tracked_file_modifications
-        },
-        ..usual
-    }
+    let mut options = options(rewrites);
+    options.tracked_file_modifications.chunk_size = if workers.is_some() { 1 } else { 100 };
+    options.tracked_file_modifications.thread_limit = workers;
+    options
 }
 
 // Returns whether a status has the report of a row.
@@ -123,7 +131,7 @@ fn is_right<R: AllocGlobal + Threads + Wait>(rt: &R, row: &Row) -> Result<bool, 
     let (on_lstat, is_passed, rewrites, workers, lines, end) = *row;
     let alloc = rt.alloc();
     let (called, flag) = (AtomicBool::new(false), AtomicBool::new(false));
-    let index = index(alloc, &[A, ("e", 0, Mode::File, FOO)])?;
+    let index = index(alloc, &[A, foo_entry("e")])?;
     let worktree = WatchedWorktree {
         worktree: worktree(alloc, &[FILE_B, FILE_C])?,
         on_lstat,
@@ -141,7 +149,7 @@ fn is_right<R: AllocGlobal + Threads + Wait>(rt: &R, row: &Row) -> Result<bool, 
         options: options_of(rewrites, workers),
         interrupt: is_passed.then_some(&flag),
     };
-    let report = joined(rt, &index, &worktree, request);
+    let report = joined(rt, &index, &worktree, NoSubmodules, request);
     let found = lines_of(alloc, &report.records)?;
     let ended = end_of(alloc, &report.answer)?;
     Ok(found.as_str() == lines && ended.as_str() == end)

@@ -1,10 +1,12 @@
 //! Short forms for indexes and worktrees, and the seconds in which entries and files change.
 
-use crate::support::contents::{EMPTY, FOO};
 use bstr::BStr;
 use gix_status::fscache;
-use gix_status::index::{Flags, IndexError, Mode, Moment, ObjectId, Stat, State, Time};
-use gix_status::worktree::{MemoryWorktree, Node, NodeKind, TreeError};
+use gix_status::index::{
+    Flags, HashKind, IndexError, Mode, Moment, Stat, State, Time, compute_hash,
+};
+use gix_status::worktree::{MemoryWorktree, Node, NodeKind, TreeError, Worktree};
+use status_callers::worktrees::{Calls, Counted};
 use std::alloc::{AllocError, Global};
 
 /// The second in which every entry was staged.
@@ -51,50 +53,37 @@ pub fn new_node(
     len: u64,
     mtime: Option<u32>,
 ) -> Result<Node, AllocError> {
-    Ok(Node {
-        kind,
-        bytes: Vec::from_slice(alloc, bytes)?,
-        len,
-        executable: false,
-        mtime: match mtime {
-            Some(secs) => Some(time(secs)),
-            None => None,
-        },
-        ctime: Some(time(STAGED)),
-        dev: 0,
-        ino: 0,
-        uid: 0,
-        gid: 0,
-    })
+    let mut node = Node::file(Vec::from_slice(alloc, bytes)?, time(STAGED));
+    node.kind = kind;
+    node.len = len;
+    node.mtime = match mtime {
+        Some(secs) => Some(time(secs)),
+        None => None,
+    };
+    Ok(node)
 }
 
-/// The path of an entry, its stage, its mode, and the id of its content.
-pub type EntryRow<'a> = (&'a str, u32, Mode, ObjectId);
+/// The path of an entry, its stage, its mode, and its content.
+pub type EntryRow<'a> = (&'a str, u32, Mode, &'a [u8]);
 
 /// Returns a plain entry of the content `foo`.
 pub fn foo_entry(path: &str) -> EntryRow<'_> {
-    (path, 0, Mode::File, FOO)
+    (path, 0, Mode::File, b"foo")
 }
 
 /// Returns the index of these entries, each of which has a size of three bytes unless its content is empty.
 pub fn index(alloc: Global, entries: &[EntryRow<'_>]) -> Result<State, IndexError> {
     let mut index = State::new(alloc, WRITTEN);
-    for (path, stage, mode, id) in entries {
-        let stat = if *id == EMPTY {
-            Stat {
-                size: 0,
-                ..stat(STAGED)
-            }
-        } else {
-            stat(STAGED)
-        };
-        index.push_entry(
-            stat,
-            *id,
+    for (path, stage, mode, content) in entries {
+        let mut stat = stat(STAGED);
+        if content.is_empty() {
+            stat.size = 0;
+        }
+        let (id, flags) = (
+            compute_hash(HashKind::Sha1, content),
             Flags::from_stage(*stage),
-            *mode,
-            BStr::from(*path),
-        )?;
+        );
+        index.push_entry(stat, id, flags, *mode, BStr::from(*path))?;
     }
     Ok(index)
 }
@@ -125,4 +114,13 @@ pub fn worktree(alloc: Global, nodes: &[NodeRow<'_>]) -> Result<MemoryWorktree, 
         worktree.put(BStr::from(*path), node)?;
     }
     Ok(worktree)
+}
+
+/// Returns a worktree whose calls on a path are counted.
+pub fn counted<'a, W: Worktree>(worktree: W, path: &'a str, calls: &'a Calls) -> Counted<'a, W> {
+    Counted {
+        worktree,
+        path: Some(path),
+        calls,
+    }
 }
