@@ -6,6 +6,8 @@ pub mod LinkLemmas
 pub mod ListedOnce
 pub mod ListingTables
 pub mod LooksLemmas
+pub mod OpenWays
 pub mod PathFronts
 pub mod Placed
 pub mod PlantedReads
+pub mod SightLemmas

@@ -1,5 +1,5 @@
 -- The directories above a path, and its components.
-use Rattle.std.proofs.Common.{◌≡◌, ℕ, zero, suc, ◌+◌, ◌<◌, ◌≤◌, Bool, true, false, cond, ltb, IsTrue, List, [], ◌∷◌, ◌++◌, length, take, drop, position, Option, Some, None, Result, Err, Contains, slice_index, refl, sym, ◌∙◌, ap, subst, inl, inr, arith, add-one, append_assoc, if◌then◌else◌}
+use Rattle.std.proofs.Common.{◌≡◌, ◌≢◌, ℕ, zero, suc, ◌+◌, ◌<◌, ◌≤◌, Bool, true, false, cond, ltb, IsTrue, List, [], ◌∷◌, ◌++◌, length, take, drop, position, Option, Some, None, Result, Err, Contains, slice_index, refl, sym, ◌∙◌, ap, subst, inl, inr, arith, add-one, append_assoc, if◌then◌else◌}
 use Rattle.std.specs.List.{slice_split, position_or_len}
 use Rattle.std.specs.Result.{result_err}
 use Rattle.std.proofs.lemmas.List.{append-nil, length-append}
@@ -18,7 +18,9 @@ use Rattle.status_base.specs.declared.stack.error.StackError.TheVariants as erro
 use Rattle.status_base.specs.Paths.{is_slash, components, directories, directories_below, abnormal_component}
 use Rattle.status_base.specs.LinkCheck.{LinkCheck, Barrier, accepted, not_normal, faulty, decided, barrier_of, leftmost_barrier, check_of_normal, link_check}
 use Rattle.status_base.specs.CheckState.{CheckState, IsClear, IsClearBelow}
-use Rattle.status_base.specs.CheckAnswers.{IsCheckError, IsNamed, IsChecked, IsAfterQuery, OnBarred, HasLooked, accepting_absent}
+use Rattle.status_base.specs.CheckAnswers.{IsCheckError, IsNamed, IsChecked, accepting_absent, unless_absent}
+use Rattle.status_base.specs.Sights.{MayStat}
+use Rattle.status_base.specs.AfterQuery.{IsAfterQuery, OnBarred, HasLooked}
 use Rattle.status_base.specs.Barriers.{IsOfDirectory, IsStopAbove, IsBarredAt, OnReached, on_the_way}
 
 one_open : (lstat : List ℕ → Result Metadata Fault) (directory : List ℕ) (slash : Bool) (others : List (List ℕ)) → (IsTrue slash → barrier_of (lstat directory) ≡ None) → leftmost_barrier lstat ((if slash then directory ∷ [] else []) ++ others) ≡ leftmost_barrier lstat others
@@ -171,15 +173,46 @@ absent_accepted {A} check result is checked =
 pub still_accepted : (check : LinkCheck) → check ≡ accepted → accepting_absent check ≡ accepted
 still_accepted check is = ap accepting_absent is
 
+unless_present : (f : Fault) → f ≢ faults.NotFound → unless_absent f ≡ faulty f
+unless_present faults.NotFound present = absurd (present refl)
+unless_present faults.NotADirectory present = refl
+unless_present faults.PermissionDenied present = refl
+unless_present faults.Interrupted present = refl
+unless_present faults.IllformedUtf8 present = refl
+unless_present faults.UnexpectedEnd present = refl
+unless_present faults.NotNormal present = refl
+unless_present faults.Memory present = refl
+unless_present (faults.Other n) present = refl
+
+-- a path that is refused for another reason is also refused by the lenient check
+pub still_refused : (check : LinkCheck) (e : StackError) → e ≢ errors.Fault faults.NotFound → IsCheckError check e → IsCheckError (accepting_absent check) e
+still_refused check EmptyPath present h = ap accepting_absent h
+still_refused check (NotNormal component) present h = ap accepting_absent h
+still_refused check (ThroughLink prefix) present h = ap accepting_absent h
+still_refused check (errors.Fault f) present (inl h) =
+    inl (ap accepting_absent h ∙ unless_present f (λ absent. present (ap errors.Fault absent)))
+still_refused check (errors.Fault f) present (inr h) = inr h
+still_refused check Memory present h = tt
+
+pub error_same : (P : StackError → Type 0) (e other : StackError) → e ≡ other → P e → P other
+error_same P e other same h = subst P same h
+
 -- no directory above an accepted path is missing
 pub accepted_present : (check : LinkCheck) → check ≡ accepted → check ≡ faulty faults.NotFound → ⊥
 accepted_present check is absent = cc
 
 -- a lenient check after a query that found nothing
-pub after_absent : {A : Type 0} (modelled : Bool) (lstat : List ℕ → Result Metadata Fault) (query : List ℕ) (result : Result A StackError) (old new : CheckState) → result ≡ Err (errors.Fault faults.NotFound) → IsAfterQuery modelled lstat query (result_err result) old new → HasLooked old new × IsAfterQuery modelled lstat query None old new
-after_absent {A} modelled lstat query result old new is after =
+pub after_absent : {A : Type 0} (may : MayStat) (modelled : Bool) (lstat : List ℕ → Result Metadata Fault) (query : List ℕ) (result : Result A StackError) (old new : CheckState) → result ≡ Err (errors.Fault faults.NotFound) → IsAfterQuery may modelled lstat query (result_err result) old new → HasLooked old new × IsAfterQuery may modelled lstat query None old new
+after_absent {A} may modelled lstat query result old new is after =
     let P : Result A StackError → Type 0 = λ r. OnBarred (result_err r) (HasLooked old new) in
-    (subst P is after.barred, record { root = after.root; clear = after.clear; looks = after.looks; few = after.few; barred = tt; unchanged = after.unchanged })
+    (subst P is after.barred, record { root = after.root; clear = after.clear; «open» = after.«open»; looks = after.looks; few = after.few; barred = tt; unchanged = after.unchanged })
+
+-- a check after the same query, with its values written in another way
+pub after_same : (may : MayStat) (modelled : Bool) (lstat : List ℕ → Result Metadata Fault) (query : List ℕ) (refusal other : Option StackError) (old new later : CheckState) → refusal ≡ other → new ≡ later → IsAfterQuery may modelled lstat query refusal old new → IsAfterQuery may modelled lstat query other old later
+after_same may modelled lstat query refusal other old new later same_refusal same_new after =
+    let P : Option StackError → Type 0 = λ r. IsAfterQuery may modelled lstat query r old later in
+    let Q : CheckState → Type 0 = λ s. IsAfterQuery may modelled lstat query refusal old s in
+    subst P same_refusal (subst Q same_new after)
 
 -- a fact that holds anyway holds if the directories were checked
 pub on_reached : (A : Type 0) (e : StackError) (P : Type 0) → P → OnReached {A = A} (Err e) P

@@ -15,7 +15,6 @@ use Rattle.status_base.specs.PathTables.{map_of}
 use Rattle.status_base.specs.Points.{with_fault, IsPlanted}
 use Rattle.status_index.specs.declared.stat.NodeKind.{NodeKind}
 use Rattle.status_base.specs.declared.worktree.node.Node.{Node}
-use Rattle.status_base.specs.declared.worktree.node.TreeError.{TreeError}
 use Rattle.status_base.specs.declared.worktree.node.TreeError.TheVariants.{BadPath, InTheWay}
 use Rattle.status_base.specs.declared.worktree.planted.Point.{Point}
 use Rattle.status_base.proofs.ListingTables.{to_key, key_cmp, tied, lookup-updated, map-insert, map-remove, map-get}

@@ -11,11 +11,18 @@ use Rattle.status_base.specs.Paths.{is_slash, directories, directories_below}
 use Rattle.status_base.specs.LinkCheck.{Barrier, accepted, decided, barrier_of}
 use Rattle.status_base.specs.CheckState.{IsClear, IsClearBelow}
 use Rattle.status_base.specs.CheckAnswers.{IsCheckError}
+use Rattle.status_base.specs.Sights.{Stats, MayStat, AreAllowed}
 
 -- A directory's barrier is returned, or out of memory. None is returned only if the directory doesn't bar the way.
 abbrev pub IsBarrier : List ℕ → Option Barrier → Option StackError → Type 0
 IsBarrier directory barrier None = barrier ≡ None
 IsBarrier directory barrier (Some e) = IsCheckError (decided directory barrier accepted) e
+
+-- It is so for a result that `lstat` may return.
+pub record IsBarrierSeen (may : MayStat) (directory : List ℕ) (error : Option StackError) : Type 0 where
+  pub answer : Result Metadata Fault
+  pub allowed : may directory answer
+  pub barrier : IsBarrier directory (barrier_of answer) error
 
 -- The only errors of a directory are that it is a link and that it has a fault.
 abbrev pub IsOfDirectory : List ℕ → StackError → Type 0
@@ -48,6 +55,12 @@ looked_at path from stop = length (on_the_way path stop) - length (directories_b
 abbrev pub IsWay : (List ℕ → Result Metadata Fault) → List ℕ → Option Stop → Type 0
 IsWay lstat path None = IsClear lstat path
 IsWay lstat path (Some stop) = IsBarredAt lstat path stop
+
+-- By results that `lstat` may return, this directory bars the way to a path, or none does.
+pub record IsWaySeen (may : MayStat) (path : List ℕ) (stop : Option Stop) : Type 0 where
+  pub lstat : Stats
+  pub allowed : AreAllowed may lstat
+  pub way : IsWay lstat path stop
 
 -- A fact that has to hold if the directories above a path were checked.
 abbrev pub OnReached : {A : Type 0} → Result A StackError → Type 0 → Type 0

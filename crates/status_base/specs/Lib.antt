@@ -1,3 +1,4 @@
+pub mod AfterQuery
 pub mod Barriers
 pub mod CheckAnswers
 pub mod CheckParts
@@ -18,6 +19,7 @@ pub mod Outcomes
 pub mod PathTables
 pub mod Paths
 pub mod Points
+pub mod Sights
 pub mod Submodules
 pub mod Trees
 pub mod Windows

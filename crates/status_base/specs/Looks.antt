@@ -9,12 +9,13 @@ use Rattle.status_index.specs.declared.fault.Fault.{Fault}
 use Rattle.status_index.specs.declared.stat.Metadata.{Metadata}
 use Rattle.status_base.specs.Paths.{directories, lies_above}
 use Rattle.status_base.specs.CheckState.{CheckState}
-use Rattle.status_base.specs.CheckAnswers.{IsAfterVerified}
+use Rattle.status_base.specs.AfterQuery.{IsAfterVerified}
+use Rattle.status_base.specs.Sights.{AnyAnswer}
 
 -- A list of queries to one check, which accepts each path.
 abbrev pub AreVerified : Bool → (List ℕ → Result Metadata Fault) → CheckState → List (List ℕ) → CheckState → Type 0
 AreVerified modelled lstat old [] new = new ≡ old
-AreVerified modelled lstat old (q ∷ qs) new = (mid : CheckState) × (answer : BStr) × IsAfterVerified modelled lstat q (Ok answer) old mid × AreVerified modelled lstat mid qs new
+AreVerified modelled lstat old (q ∷ qs) new = (mid : CheckState) × (answer : BStr) × IsAfterVerified AnyAnswer modelled lstat q (Ok answer) old mid × AreVerified modelled lstat mid qs new
 
 -- The directories above some paths that aren't above an earlier path, each at the first path below it.
 abbrev pub directories_beside : List (List ℕ) → List (List ℕ) → List (List ℕ)

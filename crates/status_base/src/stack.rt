@@ -6,9 +6,11 @@ ghost use Rattle.status_base.specs.Paths.{abnormal_component, joined};
 ghost use Rattle.status_base.specs.LinkCheck.{link_check};
 ghost use Rattle.bstr.specs.Owned.{bstring_bytes};
 ghost use Rattle.status_base.specs.CheckState.{IsClear};
+ghost use Rattle.status_base.specs.Sights.{IsOpen, IsCheckSeen};
 
 mod barrier;
 mod error;
+mod join;
 pub mod laws;
 
 use crate::components::{abnormal_component, common_front, component_start};
@@ -16,6 +18,7 @@ use crate::worktree::{Fault, Worktree};
 use barrier::first_barrier;
 use bstr::{BStr, BString};
 pub use error::StackError;
+use join::join_into;
 use std::alloc::{AllocError, Global};
 use std::marker::Model;
 
@@ -44,7 +47,8 @@ impl SymlinkCheck {
     ghost use Rattle.status_index.specs.declared.fault.Fault.TheVariants.{NotFound};
     ghost use Rattle.status_base.specs.declared.stack.error.StackError.TheVariants as errors;
     ghost use Rattle.status_base.specs.contracts.stack.SymlinkCheck.{the_row};
-    ghost use Rattle.status_base.specs.CheckAnswers.{IsVerifiedBy, IsLenientBy, IsNamed, IsNormal, IsAfterVerified, IsAfterLenient};
+    ghost use Rattle.status_base.specs.CheckAnswers.{IsVerifiedBy, IsLenientBy, IsNamed, IsNormal};
+    ghost use Rattle.status_base.specs.AfterQuery.{IsAfterVerified, IsAfterLenient};
 
     /// Returns a check of paths below a root. If the root is empty, nothing is joined to a path.
     pub fn new(alloc: Global, root: BString) -> SymlinkCheck
@@ -90,11 +94,12 @@ impl SymlinkCheck {
         path: BStr<'p>,
     ) -> Result<BStr<'s>, StackError<'p>>
         ensures answer { IsTrue (W.modelled worktree.now) → IsVerifiedBy (W.lstat_of worktree.now) self.old (bstr_bytes path.entry) result }
+        ensures seen { IsOpen (W.may_stat worktree.now) self.old.path → IsCheckSeen (W.may_stat worktree.now) (bstr_bytes path.entry) result }
         ensures named { IfErr result (IsNamed (bstr_bytes path.entry)) }
         ensures normal { OnOk result (IsNormal (bstr_bytes path.entry)) }
         ensures joined { IfOk result (λ answer. bstr_bytes answer ≡ joined self.old.root (bstr_bytes path.entry)) }
         ensures* rests { sem 𝓛 (Rests the_row self.entry
-            (IsAfterVerified (W.modelled worktree.now) (W.lstat_of worktree.now) (bstr_bytes path.entry) result self.old)) }
+            (IsAfterVerified (W.may_stat worktree.now) (W.modelled worktree.now) (W.lstat_of worktree.now) (bstr_bytes path.entry) result self.old)) }
     {
         match self.parts.verify(worktree, path.as_bytes()) {
             Ok(()) => Ok(BStr::new(self.parts.buffer.as_slice())),
@@ -117,7 +122,7 @@ impl SymlinkCheck {
         ensures joined { IfOk result (λ answer. bstr_bytes answer ≡ joined self.old.root (bstr_bytes path.entry)) }
         ensures present { IfErr result (λ e. e ≢ errors.Fault NotFound) }
         ensures* rests { sem 𝓛 (Rests the_row self.entry
-            (IsAfterLenient (W.modelled worktree.now) (W.lstat_of worktree.now) (bstr_bytes path.entry) result self.old)) }
+            (IsAfterLenient (W.may_stat worktree.now) (W.modelled worktree.now) (W.lstat_of worktree.now) (bstr_bytes path.entry) result self.old)) }
     {
         match self.parts.verify(worktree, path.as_bytes()) {
             Ok(()) => Ok(BStr::new(self.parts.buffer.as_slice())),
@@ -150,7 +155,8 @@ struct Parts {
 impl Parts {
     ghost use Rattle.std.specs.Result.{result_err};
     ghost use Rattle.status_base.specs.Common.{IsCommon};
-    ghost use Rattle.status_base.specs.CheckAnswers.{IsCheckError, IsNamed, IsNormal, IsAfterQuery, IsChecked};
+    ghost use Rattle.status_base.specs.CheckAnswers.{IsCheckError, IsNamed, IsNormal, IsChecked};
+    ghost use Rattle.status_base.specs.AfterQuery.{IsAfterQuery};
     ghost use Rattle.status_base.specs.Barriers.{OnReached};
     ghost use Rattle.status_base.specs.CheckParts.{state_of};
 
@@ -165,11 +171,12 @@ impl Parts {
         path: &'p [u8],
     ) -> Result<(), StackError<'p>>
         ensures answer { IsTrue (W.modelled worktree.now) → IsClear (W.lstat_of worktree.now) (state_of self.old).path → IsChecked (link_check (W.lstat_of worktree.now) path.now) result }
+        ensures seen { IsOpen (W.may_stat worktree.now) (state_of self.old).path → IsCheckSeen (W.may_stat worktree.now) path.now result }
         ensures named { IfErr result (IsNamed path.now) }
         ensures normal { OnReached result (IsNormal path.now) }
         ensures joined { OnReached result (self.new.buffer.items ≡ joined (bstring_bytes self.old.root) path.now) }
         ensures tested { OnOk result ((state_of self.new).path ≡ path.now) }
-        ensures after { IsAfterQuery (W.modelled worktree.now) (W.lstat_of worktree.now) path.now (result_err result) (state_of self.old) (state_of self.new) }
+        ensures after { IsAfterQuery (W.may_stat worktree.now) (W.modelled worktree.now) (W.lstat_of worktree.now) path.now (result_err result) (state_of self.old) (state_of self.new) }
     {
         if path.is_empty() {
             return Err(StackError::EmptyPath);
@@ -227,25 +234,4 @@ impl Parts {
         self.buffer.extend_from_slice(&path[common..])?;
         Ok(())
     }
-}
-
-/// Replaces the content of a buffer by a path joined to a root, and returns the position of the path. An empty root
-/// adds nothing before the path.
-///
-/// # Errors
-/// Out of memory.
-fn join_into(buffer: &mut Vec<u8>, root: &[u8], path: &[u8]) -> Result<usize, AllocError>
-    ensures joined { OnOk result (buffer.new.items ≡ joined root.now path.now) }
-    ensures below { IfOk result (λ start. take start buffer.new.items ≡ joined root.now []) }
-    ensures path { IfOk result (λ start. drop start buffer.new.items ≡ path.now) }
-    ensures length { IfOk result (λ start. start + length path.now ≡ vec_len buffer.new) }
-{
-    buffer.clear();
-    if !root.is_empty() {
-        buffer.extend_from_slice(root)?;
-        buffer.push(b'/')?;
-    }
-    let start = buffer.len();
-    buffer.extend_from_slice(path)?;
-    Ok(start)
 }

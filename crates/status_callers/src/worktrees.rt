@@ -62,6 +62,10 @@ impl<'a, W: Worktree> Worktree for Counted<'a, W> {
 
     ghost target_of = { λ c. W.target_of c.worktree };
 
+    ghost may_stat = { λ c. W.may_stat c.worktree };
+
+    ghost stat_may_fail = { λ c. W.stat_may_fail c.worktree };
+
     fn lstat(&self, path: BStr<'_>) -> Result<Metadata, Fault> {
         self.count(path, &self.calls.looks);
         self.worktree.lstat(path)

@@ -1,9 +1,10 @@
 //! The barrier on the way to a path: the leftmost directory above it that is a symbolic link or has a fault.
 
 ghost use Rattle.std.specs.Prelude.{◌≤◌, ◌+◌, IsTrue, IfSome};
-ghost use Rattle.status_base.specs.Barriers.{IsWay, IsStopAbove, IsBarrier, IsOfDirectory, looked_at};
+ghost use Rattle.status_base.specs.Barriers.{IsWay, IsWaySeen, IsStopAbove, IsBarrier, IsBarrierSeen, IsOfDirectory, looked_at};
 ghost use Rattle.status_base.specs.CheckState.{IsClearBelow};
 ghost use Rattle.status_base.specs.LinkCheck.{barrier_of};
+ghost use Rattle.status_base.specs.Sights.{IsOpenBelow};
 ghost use Rattle.status_index.specs.Content.{saturate};
 
 use crate::stack::error::StackError;
@@ -26,6 +27,7 @@ pub(crate) fn first_barrier<'p, W: Worktree>(
     looks: &mut u64,
 ) -> Option<Stop<'p>>
     ensures way { IsTrue (W.modelled worktree.now) → IsClearBelow (W.lstat_of worktree.now) path.now from → IsWay (W.lstat_of worktree.now) path.now result }
+    ensures seen { IsOpenBelow (W.may_stat worktree.now) path.now from → IsWaySeen (W.may_stat worktree.now) path.now result }
     ensures stop { IfSome result (IsStopAbove path.now) }
     ensures behind { IfSome result (λ stop. from ≤ stop.at) }
     ensures looks { looks.old ≤ looks.new }
@@ -46,6 +48,7 @@ pub(crate) fn first_barrier<'p, W: Worktree>(
 /// Returns why no path may lead through a directory: it is a link, or has a fault.
 fn barrier<'p, W: Worktree>(worktree: &W, directory: &'p [u8]) -> Option<StackError<'p>>
     ensures barrier { IsTrue (W.modelled worktree.now) → IsBarrier directory.now (barrier_of (W.lstat_of worktree.now directory.now)) result }
+    ensures seen { IsBarrierSeen (W.may_stat worktree.now) directory.now result }
     ensures of_directory { IfSome result (IsOfDirectory directory.now) }
 {
     let prefix = BStr::new(directory);

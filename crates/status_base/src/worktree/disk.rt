@@ -66,18 +66,9 @@ impl<F: io::Read + Drop> ReadBytes for DiskFile<F> {
 }
 
 impl<R: Files + AllocGlobal + Drop> Worktree for DiskWorktree<R> {
-    ghost use Rattle.std.specs.Prelude.{false, Err};
-    ghost use Rattle.status_index.specs.declared.fault.Fault.TheVariants.{NotFound};
-
     type File = DiskFile<R::File>;
 
-    ghost modelled = { λ _. false };
-
-    ghost lstat_of = { λ _ _. Err NotFound };
-
-    ghost open_of = { λ _ _. Err NotFound };
-
-    ghost target_of = { λ _ _. Err NotFound };
+    ghost stat_may_fail = { λ _ _. tt };
 
     fn lstat(&self, path: BStr<'_>) -> Result<Metadata, Fault> {
         let mut buffer = self.buffer();

@@ -39,7 +39,9 @@ impl MemoryWorktree {
 }
 
 impl Worktree for MemoryWorktree {
-    ghost use Rattle.std.specs.Prelude.{true};
+    ghost use Rattle.std.specs.Prelude.{true, refl};
+    ghost use Rattle.std.proofs.Common.{inr};
+    ghost use Rattle.status_index.specs.Answer.{IsAnswer};
     ghost use Rattle.status_base.specs.MemoryTree.{lstat_in, open_in, target_in};
 
     type File = MemoryFile;
@@ -51,6 +53,10 @@ impl Worktree for MemoryWorktree {
     ghost open_of = { open_in };
 
     ghost target_of = { target_in };
+
+    ghost may_stat = { λ tree path answer. IsAnswer (lstat_in tree path) answer };
+
+    ghost stat_may_fail = { λ _ _. inr refl };
 
     fn lstat(&self, path: BStr<'_>) -> Result<Metadata, Fault> {
         let path = path.as_bytes();

@@ -1,9 +1,10 @@
 //! The interface of a worktree: `lstat`, opening a file and reading a link.
 
-ghost use Rattle.std.specs.Prelude.{IsTrue, Bool, List, ℕ, Result};
+ghost use Rattle.std.specs.Prelude.{IsTrue, Bool, false, List, ℕ, Result, Err, ⊤};
 ghost use Rattle.bstr.specs.BStr.{bstr_bytes};
 ghost use Rattle.status_index.specs.Content.{Content};
 ghost use Rattle.status_index.specs.declared.fault.Fault.{Fault as WorktreeFault};
+ghost use Rattle.status_index.specs.declared.fault.Fault.TheVariants.{Memory, NotFound};
 ghost use Rattle.status_index.specs.declared.stat.Metadata.{Metadata as NodeMetadata};
 ghost use Rattle.status_index.specs.Answer.{IsAnswer};
 ghost use Rattle.status_base.specs.Lawful.{IsOpened, IsTarget};
@@ -12,29 +13,34 @@ use bstr::BStr;
 use status_index::{Fault, Metadata, ReadBytes};
 
 /// A worktree. Paths are from its root, with `/` between components. It is either modelled, and then its results are
-/// three functions of the path, or not, such as a folder of a real disk.
+/// three functions of the path, or not, such as a folder of a real disk. One that isn't leaves the ghost members out, except
+/// for the law.
 pub trait Worktree {
     /// An open file.
     type File: ReadBytes;
 
     /// Whether the worktree is modelled.
-    ghost modelled: { Self → Bool };
+    ghost modelled: { Self → Bool } = { λ _. false };
 
     /// The specified result of `lstat`.
-    ghost lstat_of: { Self → List ℕ → Result NodeMetadata WorktreeFault };
+    ghost lstat_of: { Self → List ℕ → Result NodeMetadata WorktreeFault } = { λ _ _. Err NotFound };
 
     /// The specified result of opening: the content that can be read.
-    ghost open_of: { Self → List ℕ → Result Content WorktreeFault };
+    ghost open_of: { Self → List ℕ → Result Content WorktreeFault } = { λ _ _. Err NotFound };
 
     /// The specified result of reading a link: its target.
-    ghost target_of: { Self → List ℕ → Result (List ℕ) WorktreeFault };
+    ghost target_of: { Self → List ℕ → Result (List ℕ) WorktreeFault } = { λ _ _. Err NotFound };
+
+    /// Which results `lstat` may return for a path. It needn't return the same result twice.
+    ghost may_stat: { Self → List ℕ → Result NodeMetadata WorktreeFault → Type 0 } = { λ _ _ _. ⊤ };
 
     /// Returns the metadata of the node at a path. A link isn't followed.
     ///
     /// # Errors
     /// The worktree's fault.
     fn lstat(&self, path: BStr<'_>) -> Result<Metadata, Fault>
-        ensures { IsTrue (modelled self.now) → IsAnswer (lstat_of self.now (bstr_bytes path.entry)) result };
+        ensures answer { IsTrue (modelled self.now) → IsAnswer (lstat_of self.now (bstr_bytes path.entry)) result }
+        ensures seen { may_stat self.now (bstr_bytes path.entry) result };
 
     /// Opens the file at a path for reading.
     ///
@@ -49,4 +55,7 @@ pub trait Worktree {
     /// The worktree's fault.
     fn read_link(&self, path: BStr<'_>, target: &mut Vec<u8>) -> Result<(), Fault>
         ensures { IsTrue (modelled self.now) → IsTarget (target_of self.now (bstr_bytes path.entry)) result target.new.items };
+
+    /// `lstat` may always run out of memory.
+    ghost stat_may_fail: { (tree : Self) (path : List ℕ) → may_stat tree path (Err Memory) };
 }

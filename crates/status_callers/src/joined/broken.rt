@@ -1,8 +1,5 @@
 //! A worktree with faults, as written by a caller who needs no proof about it.
 
-ghost use Rattle.std.specs.Prelude.{false, Err};
-ghost use Rattle.status_index.specs.declared.fault.Fault.TheVariants.{NotFound};
-
 use bstr::BStr;
 use gix_status::worktree::{Fault, MemoryFile, MemoryWorktree, Metadata, ReadBytes, Worktree};
 
@@ -59,13 +56,7 @@ impl<'a> Broken<'a> {
 impl<'a> Worktree for Broken<'a> {
     type File = BrokenFile;
 
-    ghost modelled = { λ _. false };
-
-    ghost lstat_of = { λ _ _. Err NotFound };
-
-    ghost open_of = { λ _ _. Err NotFound };
-
-    ghost target_of = { λ _ _. Err NotFound };
+    ghost stat_may_fail = { λ _ _. tt };
 
     fn lstat(&self, path: BStr<'_>) -> Result<Metadata, Fault> {
         self.check(Point::Lstat, path)?;

@@ -1,8 +1,5 @@
 //! How often a status calls `lstat` on a file, opens it and reads it.
 
-ghost use Rattle.std.specs.Prelude.{false, Err};
-ghost use Rattle.status_index.specs.declared.fault.Fault.TheVariants.{NotFound};
-
 use crate::call::reports::{Says, Wanted, is_report, read, status_by_pieces};
 use crate::support::inputs::time;
 use crate::support::pieces::Piece;
@@ -34,13 +31,7 @@ struct Everywhere<'a> {
 impl<'a> Worktree for Everywhere<'a> {
     type File = CountedPiece<'a>;
 
-    ghost modelled = { λ _. false };
-
-    ghost lstat_of = { λ _ _. Err NotFound };
-
-    ghost open_of = { λ _ _. Err NotFound };
-
-    ghost target_of = { λ _ _. Err NotFound };
+    ghost stat_may_fail = { λ _ _. tt };
 
     fn lstat(&self, _path: BStr<'_>) -> Result<Metadata, Fault> {
         Ok(Metadata {

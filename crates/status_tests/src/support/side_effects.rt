@@ -1,7 +1,6 @@
 //! A worktree whose `lstat` has a side effect, and a lister that counts its calls. Neither is modelled.
 
-ghost use Rattle.std.specs.Prelude.{None, false, Err, refl};
-ghost use Rattle.status_index.specs.declared.fault.Fault.TheVariants.{NotFound};
+ghost use Rattle.std.specs.Prelude.{None, false, refl};
 
 use bstr::BStr;
 use gix_status::worktree::{
@@ -86,13 +85,7 @@ impl<'a> WatchedWorktree<'a> {
 impl<'a> Worktree for WatchedWorktree<'a> {
     type File = MemoryFile;
 
-    ghost modelled = { λ _. false };
-
-    ghost lstat_of = { λ _ _. Err NotFound };
-
-    ghost open_of = { λ _ _. Err NotFound };
-
-    ghost target_of = { λ _ _. Err NotFound };
+    ghost stat_may_fail = { λ _ _. tt };
 
     fn lstat(&self, path: BStr<'_>) -> Result<Metadata, Fault> {
         let is_link = self.effect(path)?;

@@ -12,6 +12,7 @@ returns-in-Ok g c =
       (refl, λ _. tt, record { path = c.in-Ok.ensures.tested; after = c.in-Ok.ensures.after }),
       record {
         answer = λ modelled clear. (c.in-Ok.ensures.answer modelled clear, written);
+        seen = λ opened. (let seen = c.in-Ok.ensures.seen opened in record { lstat = seen.lstat; allowed = seen.allowed; checked = seen.checked });
         named = tt;
         normal = c.in-Ok.ensures.normal;
         joined = written;
@@ -25,6 +26,7 @@ returns-in-Err g c =
       (refl, λ _. tt, record { path = tt; after = c.in-Err.ensures.after }),
       record {
         answer = λ modelled clear. c.in-Err.ensures.answer modelled clear;
+        seen = λ opened. (let seen = c.in-Err.ensures.seen opened in record { lstat = seen.lstat; allowed = seen.allowed; checked = seen.checked });
         named = c.in-Err.ensures.named;
         normal = tt;
         joined = tt;
