@@ -13,6 +13,7 @@ use Rattle.status_call.specs.declared.index_as_worktree.piece.End.{End}
 use Rattle.status_call.specs.declared.index_as_worktree.piece.Piece.{Piece}
 use Rattle.status_call.specs.Pieces.{IsCut, IsThrough}
 use Rattle.status_call.specs.Query.{Query}
+use Rattle.status_call.specs.Views.{Allows}
 use Rattle.status_call.specs.Rounds.{AreBounds, AreInRow, ArePieces, IsResult, IsPieceEnd, bound, last_bound, is_short}
 use Rattle.status_call.proofs.Stretch.{AllPairs-append}
 
@@ -107,12 +108,12 @@ module _ {T U : Type 0} where
       let k : length (p ∷ r ∷ rs) - 1 ≡ suc (length (r ∷ rs) - 1) = omega arith in
       (e.0, sym (ap (slice_get (p ∷ r ∷ rs)) k) ∙ e.1, e.2)
 
-module _ {T U : Type 0} (q : Query T U) (interruptible : Bool) (start : ℕ) (es : List IndexEntry) (bounds : List ℕ) (are : AreBounds es bounds) where
+module _ {T U : Type 0} (q : Query T U) (may : Allows T U) (interruptible : Bool) (start : ℕ) (es : List IndexEntry) (bounds : List ℕ) (are : AreBounds es bounds) where
   abbrev Gives : ℕ → Piece T U → Type 0
-  Gives n p = IsResult q interruptible start es (bound bounds n) (bound bounds (n + 1)) p
+  Gives n p = IsResult q may interruptible start es (bound bounds n) (bound bounds (n + 1)) p
 
   abbrev Row : ℕ → List (Piece T U) → Type 0
-  Row at ps = AreInRow q interruptible start es (last_bound bounds) at ps
+  Row at ps = AreInRow q may interruptible start es (last_bound bounds) at ps
 
   -- The pieces from a number on.
   row_from : (n : ℕ) (ps : List (Piece T U)) → n + length ps ≤ length bounds - 1
@@ -128,7 +129,7 @@ module _ {T U : Type 0} (q : Query T U) (interruptible : Bool) (start : ℕ) (es
       let result : Gives n p = subst (λ (m : ℕ). Gives m p) (omega arith) (each 0 p refl) in (
         record { to = bound bounds (n + 1); inside = are.inside (n + 1) 0 (omega (arith, few)); result = result },
         λ whole.
-            let reached : p.reached ≡ bound bounds (n + 1) = subst (λ (e : End). IsThrough q es (bound bounds (n + 1)) p.reached e) whole result.piece.through in
+            let reached : p.reached ≡ bound bounds (n + 1) = subst (λ (e : End). IsThrough q may es (bound bounds (n + 1)) p.reached e) whole result.piece.through in
             subst (λ (at : ℕ). Row at ps) (sym reached)
             (row_from (n + 1) ps (omega (arith, few))
             (λ i r h. subst (λ (m : ℕ). Gives m r) (omega arith) (each (suc i) r h))

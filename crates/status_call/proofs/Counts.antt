@@ -1,5 +1,5 @@
 -- Lemmas on counts: their sums and bounds, those of one entry and of a part, and an outcome with them.
-use Rattle.std.proofs.Common.{◌≡◌, refl, sym, ap, ◌∙◌, subst, ℕ, ◌+◌, ◌-◌, ◌≤◌, Bool, true, false, not, ◌&&◌, ◌==◌, List, [], ◌∷◌, ◌++◌, length, map, All, count_by, Option, Some, None, option_map, Ok, arith}
+use Rattle.std.proofs.Common.{◌≡◌, refl, sym, ap, ◌∙◌, subst, ℕ, ◌+◌, ◌-◌, ◌≤◌, Bool, true, false, not, ◌&&◌, ◌==◌, List, ◌∷◌, ◌++◌, length, map, All, count_by, Option, Some, None, option_map, Ok, arith}
 use Rattle.std.specs.declared.ops.Range.{Range}
 use Rattle.std.proofs.lemmas.Bool.{and_from, and_left, and_right, or_left, or_right, or_parts, not_from_true, not_from_false}
 use Rattle.std.proofs.lemmas.List.Elements.{All-weaker}

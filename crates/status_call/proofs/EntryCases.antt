@@ -34,6 +34,12 @@ pub all_worktree : (a b c d : Bool) → IsTrue (all_modelled a b c d) → IsTrue
 all_worktree true b c d t = refl
 all_worktree false b c d t = absurd (cc)
 
+pub all_submodule : (a b c d : Bool) → IsTrue (all_modelled a b c d) → IsTrue c
+all_submodule true true true d t = refl
+all_submodule true true false d t = absurd (cc)
+all_submodule true false c d t = absurd (cc)
+all_submodule false b c d t = absurd (cc)
+
 pub all_specified : (a b c d : Bool) (m : Readings) → IsTrue (all_modelled a b c d) → if_modelled a b m ≡ Some m
 all_specified true true c d m t = refl
 all_specified true false c d m t = absurd (cc)

@@ -78,7 +78,7 @@ module _ (symlink : Bool) where
     same_change mode = same_change_at mode n.kind
 
 -- Two queries whose listings know different things of paths.
-module _ {T U : Type 0} (q : Query T U) (uncounted : q.executable_bit ≡ false) (here there : List ℕ → Option Metadata) (e : IndexEntry) where
+module _ {T U : Type 0} (q : Query T U) (uncounted : q.executable_bit ≡ false) (here there : IndexEntry → Option Metadata) (e : IndexEntry) where
   abbrev one : Query T U
   one = record q { cached = here }
 
@@ -162,7 +162,7 @@ module _ {T U : Type 0} (q : Query T U) (uncounted : q.executable_bit ≡ false)
   same_found (not_normal c) known r h = refl
   same_found empty_path known r h = refl
 
-module _ {T U : Type 0} (q : Query T U) (listing : List ℕ → Listing) (live : AreLive listing q.lstat) (uncounted : q.executable_bit ≡ false) where
+module _ {T U : Type 0} (q : Query T U) (listing : List ℕ → Listing) (live : (e : IndexEntry) → AreLive listing (q.lstat e)) (uncounted : q.executable_bit ≡ false) where
   abbrev with_them : Query T U
   with_them = with_listings q listing
 
@@ -172,7 +172,7 @@ module _ {T U : Type 0} (q : Query T U) (listing : List ℕ → Listing) (live :
   same_status : (e : IndexEntry) → status_of with_them e ≡ status_of without e
   same_status e =
       ap (answer e.path)
-      (same_found q uncounted (known_node true listing) (λ _. None) e (link_check q.lstat e.path) (listed listing e.path) (q.lstat e.path) (live e.path))
+      (same_found q uncounted (λ e. known_node true listing e.path) (λ _. None) e (link_check (q.lstat e) e.path) (listed listing e.path) (q.lstat e e.path) (live e e.path))
 
   same_verdict : (es : List IndexEntry) (e : IndexEntry) → verdict with_them es e ≡ verdict without es e
   same_verdict es e =

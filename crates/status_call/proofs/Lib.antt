@@ -23,7 +23,10 @@ pub mod Pieces
 pub mod Records
 pub mod RunsOfLists
 pub mod Sent
+pub mod SightCases
 pub mod StatusProof
+pub mod StatusSeen
 pub mod Steps
 pub mod Stretch
+pub mod ViewLemmas
 pub mod WorkInOrder

@@ -1,7 +1,7 @@
 -- Records, faults and reads of parts of the considered entries, and of one entry.
-use Rattle.std.proofs.Common.{◌≡◌, refl, sym, ap, ◌∙◌, ℕ, ◌+◌, ◌≤◌, min, Bool, true, false, not, ◌&&◌, ◌||◌, ◌==◌, List, [], ◌∷◌, ◌++◌, length, map, All, sum_by, count_by, Option, Some, None, option_map, Ok, arith}
+use Rattle.std.proofs.Common.{◌≡◌, refl, sym, ap, ◌∙◌, ℕ, ◌+◌, min, true, false, ◌||◌, ◌==◌, List, [], ◌∷◌, ◌++◌, length, All, sum_by, Option, None, Ok, arith}
 use Rattle.std.specs.List.{flat_map, enumerate_from, cons_option}
-use Rattle.std.proofs.lemmas.Bool.{cond-true, cond-false, and_from, and_left, and_right, or_left, or_right, or_from, or_parts, not_from_true, not_from_false}
+use Rattle.std.proofs.lemmas.Bool.{cond-true, cond-false, and_from, and_left, and_right, or_left, or_right, or_from, not_from_true, not_from_false}
 use Rattle.std.proofs.lemmas.List.{append-nil}
 use Rattle.std.proofs.lemmas.List.Concat.{flat_map-append}
 use Rattle.std.proofs.lemmas.List.Elements.{All-head, All-tail, All-weaker, filter_map-append}
@@ -12,17 +12,13 @@ use Rattle.status_compare.specs.declared.error.Error.{Error}
 use Rattle.status_compare.specs.declared.read_data.Reads.{Reads}
 use Rattle.status_compare.specs.Reads.{no_reads}
 use Rattle.status_call.specs.declared.index_as_worktree.step.Decided.{Decided}
-use Rattle.status_call.specs.declared.index_as_worktree.types.Conflict.{Conflict}
-use Rattle.status_call.specs.declared.index_as_worktree.types.ConflictIndexEntry.{ConflictIndexEntry}
-use Rattle.status_call.specs.declared.index_as_worktree.types.EntryStatus.TheVariants as statuses
 use Rattle.status_call.specs.declared.index_as_worktree.types.Finding.{Finding}
-use Rattle.status_call.specs.Conflicts.{conflict_of, kept_of, places_of}
-use Rattle.status_call.specs.Considered.{is_flagged, is_excluded, is_skipped, is_over, stages_from}
+use Rattle.status_call.specs.Considered.{is_skipped, is_over, stages_from}
 use Rattle.status_call.specs.Counts.{reads_in, reads_of, is_looked_at, ModelsReads}
 use Rattle.status_call.specs.Decisions.{IsDecision}
 use Rattle.status_call.specs.Query.{Query}
 use Rattle.status_call.specs.Records.{verdict, records_in, record_by, faults_in, fault_by, conflict_status}
-use Rattle.status_call.specs.Status.{case_of, status_of}
+use Rattle.status_call.specs.Status.{status_of}
 use Rattle.status_compare.specs.Reads.{plus_reads}
 use Rattle.status_call.proofs.Stretch.{sum_by_none, enumerate-append}
 

@@ -15,11 +15,12 @@ use Rattle.status_call.specs.declared.index_as_worktree.types.Finding.{Finding}
 use Rattle.status_call.specs.declared.index_as_worktree.types.Outcome.{Outcome}
 use Rattle.status_call.specs.declared.index_as_worktree.counts.Progress.{Progress}
 use Rattle.status_call.specs.Counts.{IsOutcome, counts_in, outcome_of, reads_in, skipped_of}
-use Rattle.status_call.specs.Pieces.{IsAsSpecified, IsFaultAt}
+use Rattle.status_call.specs.Pieces.{IsAsSpecified, IsFaultAt, IsFaulty}
 use Rattle.status_call.specs.Query.{Query}
 use Rattle.status_call.specs.Records.{records_in, records_of, faults_in, first_fault, verdict}
 use Rattle.status_call.specs.StatusOf.{IsFaultOrMemory, IsThreadless, OneThreadSpawnsNone}
 use Rattle.status_call.specs.StatusTheorem.{IsBeginning, IsComplete, IsStatusReport, IsStatusOf, IsFirstFault, NeverSpawns, considered_entries, start_of}
+use Rattle.status_call.specs.Views.{Allows}
 use Rattle.status_call.specs.Visits.{Visit, finding_of, IsFaithful}
 use Rattle.status_call.specs.WorkInOrder.{IsShortage, IsWorkStopped, IsReportedWork}
 use Rattle.status_call.specs.Workers.{most_workers}
@@ -92,7 +93,7 @@ module _ {T U : Type 0} (q : Query T U) (start : ℕ) (es : List IndexEntry) whe
 begins_more : {A : Type 0} (xs ys zs : List A) → IsBeginning xs ys → IsBeginning ys zs → IsBeginning xs zs
 begins_more xs ys zs a b = (a.0 ++ b.0, sym (append_assoc xs a.0 b.0) ∙ ap (λ (l : List _). l ++ b.0) a.1 ∙ b.1)
 
-module _ {T U : Type 0} (q : Query T U) (index : State) (has_flag : Bool) (old new : List (Visit T U)) where
+module _ {T U : Type 0} (q : Query T U) (may : Allows T U) (index : State) (has_flag : Bool) (old new : List (Visit T U)) where
   abbrev es : List IndexEntry
   es = considered_entries q index
 
@@ -101,7 +102,7 @@ module _ {T U : Type 0} (q : Query T U) (index : State) (has_flag : Bool) (old n
 
   abbrev Work : ℕ → Result Progress Error → Type 0
   Work workers result =
-      IsReportedWork q start es 0 (IsFaithful (entries_of index) (backing_of index)) has_flag workers (length es) old result new
+      IsReportedWork q may start es 0 (IsFaithful (entries_of index) (backing_of index)) has_flag workers (length es) old result new
 
   module _ (workers : ℕ) (p : Progress) (range : Range ℕ) (all : ℕ) (work : Work workers (Ok p))
       (process : range.end - range.start ≡ length es) (rest : all - (range.end - range.start) ≡ length (index_of index) - length es)
@@ -154,11 +155,11 @@ module _ {T U : Type 0} (q : Query T U) (index : State) (has_flag : Bool) (old n
     }
 
   module _ (workers : ℕ) (e : Error) (work : Work workers (Err e)) where
-    abbrev stop : IsWorkStopped q start es 0 workers work.reported e
+    abbrev stop : IsWorkStopped q may start es 0 workers work.reported e
     stop = work.ended
 
     abbrev By : Type 0
-    By = ((work.reported ≡ stop.found) × (stop.place < length es) × (IsTrue q.modelled → IsFaultAt q es stop.place e)) ⊎ (IsShortage workers e × IsBeginning work.reported stop.found)
+    By = ((work.reported ≡ stop.found) × (stop.place < length es) × IsFaulty q may es stop.place e) ⊎ (IsShortage workers e × IsBeginning work.reported stop.found)
 
     -- The findings up to the stop are a beginning of the records.
     found_begins : IsTrue q.modelled → IsBeginning stop.found (records_of q start es)
@@ -175,11 +176,11 @@ module _ {T U : Type 0} (q : Query T U) (index : State) (has_flag : Bool) (old n
     reported_in (inr h) = h.1
 
     -- The stop is at the first fault.
-    at_fault : IsTrue q.modelled → e ≢ Memory → (work.reported ≡ stop.found) × (stop.place < length es) × (IsTrue q.modelled → IsFaultAt q es stop.place e) → IsFirstFault q index (map finding_of work.fed.more) e
+    at_fault : IsTrue q.modelled → e ≢ Memory → (work.reported ≡ stop.found) × (stop.place < length es) × IsFaulty q may es stop.place e → IsFirstFault q index (map finding_of work.fed.more) e
     at_fault t other h =
         let m = stop.done.specified t in
         let clear : faults_in q es (take stop.place es) ≡ [] = sym (ap (faults_in q es) (part_front es stop.place)) ∙ m.clear in
-        let here = fault_here q es stop.place e other (h.2 t) in
+        let here = fault_here q es stop.place e other (h.2.specified t) in
         record {
           first = fault_law q es stop.place e h.1 clear here;
           place = stop.place;
@@ -198,7 +199,7 @@ module _ {T U : Type 0} (q : Query T U) (index : State) (has_flag : Bool) (old n
     lone_shortage one (inr h) spawned = absurd (omega (arith, one, h.1))
 
     no_thread : IsTrue q.modelled → workers ≡ 1 → NeverSpawns q → By → e ≡ SpawnThread → ⊥
-    no_thread t one never (inl h) spawned = fault_not_thread q never es stop.place e h.1 spawned (h.2 t)
+    no_thread t one never (inl h) spawned = fault_not_thread q never es stop.place e h.1 spawned (h.2.specified t)
     no_thread t one never (inr h) spawned = lone_shortage one h.0 spawned
 
     -- The work ended.
@@ -229,12 +230,12 @@ module _ {T U : Type 0} (q : Query T U) (index : State) (has_flag : Bool) (old n
         no_thread t (same ∙ ap most_workers one) never stop.by (err_same e SpawnThread h)
 
 -- The same work, for an equal query and an equal part.
-pub work_kept : {T U : Type 0} (q r : Query T U) (faithful : Visit T U → Type 0) (interruptible : Bool) (workers start place : ℕ) (whole part : List IndexEntry) (old new : List (Visit T U)) (result : Result Progress Error)
-    → r ≡ q → place ≡ start → part ≡ whole → IsReportedWork r place part 0 faithful interruptible workers (length part) old result new → IsReportedWork q start whole 0 faithful interruptible workers (length whole) old result new
-work_kept q r faithful interruptible workers start place whole part old new result same at of work =
-    subst (λ l. IsReportedWork q start l 0 faithful interruptible workers (length l) old result new) of
-    (subst (λ n. IsReportedWork q n part 0 faithful interruptible workers (length part) old result new) at
-    (subst (λ x. IsReportedWork x place part 0 faithful interruptible workers (length part) old result new) same work))
+pub work_kept : {T U : Type 0} (q r : Query T U) (may : Allows T U) (faithful : Visit T U → Type 0) (interruptible : Bool) (workers start place : ℕ) (whole part : List IndexEntry) (old new : List (Visit T U)) (result : Result Progress Error)
+    → r ≡ q → place ≡ start → part ≡ whole → IsReportedWork r may place part 0 faithful interruptible workers (length part) old result new → IsReportedWork q may start whole 0 faithful interruptible workers (length whole) old result new
+work_kept q r may faithful interruptible workers start place whole part old new result same at of work =
+    subst (λ l. IsReportedWork q may start l 0 faithful interruptible workers (length l) old result new) of
+    (subst (λ n. IsReportedWork q may n part 0 faithful interruptible workers (length part) old result new) at
+    (subst (λ x. IsReportedWork x may place part 0 faithful interruptible workers (length part) old result new) same work))
 
 -- The theorem, for an equal query.
 pub met_along : {T U : Type 0} (q r : Query T U) → r ≡ q → (index : State) (old : List (Visit T U)) (result : Result Outcome Error) (new : List (Visit T U)) → IsStatusReport r index old result new → IsStatusReport q index old result new

@@ -1,9 +1,11 @@
 -- The next step: one entry that is skipped or decided, or a conflict.
-use Rattle.std.proofs.Common.{◌≡◌, refl, sym, ap, ◌∙◌, ℕ, ◌+◌, ◌<◌, ◌≤◌, inl, inr, true, false, ◌==◌, List, [], ◌∷◌, ◌++◌, length, take, drop, slice_index_or, All, Option, None, Ok, Err, IsTrue, arith}
+use Rattle.std.proofs.Common.{◌≡◌, refl, sym, ap, ◌∙◌, subst, ℕ, ◌+◌, ◌<◌, ◌≤◌, inl, inr, true, false, ◌==◌, List, [], ◌∷◌, ◌++◌, length, take, drop, slice_index_or, All, Option, None, Ok, Err, IsTrue, arith}
 use Rattle.std.proofs.lemmas.Bool.{and_left, and_right, not_from_true, or_left, or_right, ne_eqb, eq-eqb, le-ltb}
 use Rattle.std.specs.List.{cons_option}
 use Rattle.std.proofs.lemmas.List.{append-nil}
-use Rattle.std.proofs.lemmas.List.Elements.{All-nil, All-weaker}
+use Rattle.std.proofs.Math.Logic.{∥∥₁_map}
+use Rattle.std.proofs.lemmas.Grind.{merely}
+use Rattle.std.proofs.lemmas.List.Elements.{All-nil, All-cons, All-weaker}
 use Rattle.std.proofs.lemmas.List.Folds.{length-prefix_len}
 use Rattle.status_index.specs.Entries.{IndexEntry, IsIndex, stage_of}
 use Rattle.status_index.specs.Stretch.{part_of}
@@ -16,11 +18,12 @@ use Rattle.status_call.specs.Considered.{is_flagged, is_excluded, is_skipped, is
 use Rattle.status_call.specs.Counts.{IsWithin, ModelsReads, conflict_counts, counts_in, decided_counts, excluded_counts, flagged_counts, no_totals, reads_in, reads_of}
 use Rattle.status_call.specs.declared.index_as_worktree.counts.Counts.{Counts}
 use Rattle.status_call.specs.Decisions.{IsDecided}
-use Rattle.status_call.specs.Pieces.{IsFaultAt}
+use Rattle.status_call.specs.Pieces.{IsFaultAt, IsFaultSeen, IsFaulty}
 use Rattle.status_call.specs.Query.{Query}
 use Rattle.status_call.specs.declared.index_as_worktree.types.Finding.{Finding}
 use Rattle.status_call.specs.Records.{conflict_status, fault_by, faults_in, record_by, records_in, verdict}
-use Rattle.status_call.specs.Steps.{IsFresh, IsStepOf, IsNext}
+use Rattle.status_call.specs.Steps.{IsFresh, IsStepOf, IsStepSeen, IsNext}
+use Rattle.status_call.specs.Views.{Allows, Views, IsSeenDecided, as_seen}
 use Rattle.status_compare.specs.Reads.{plus_reads}
 use Rattle.status_call.proofs.IndexOrder.{same_back, same_from_path}
 use Rattle.status_call.proofs.Counts.{IsWithin-same, IsWithin-more, conflict_within, counts_head, decided_within, excluded_within, flagged_within, one-conflict, one-decided, one-excluded, one-flagged, one_counts}
@@ -65,20 +68,6 @@ module _ (es : List IndexEntry) (index : IsIndex es) (i : ℕ) (x : IndexEntry) 
     first : is_over q es x ≡ false
     first = not_over es index i x l here q fresh
 
-    one_next : (s : Step T U) (k : Counts) → IsSelf s 1 k → IsWithin 1 k → ((r : IndexEntry) → takes_over q x r ≡ false) → (IsTrue q.modelled → IsStepOf q es (x ∷ []) s) → IsNext q es i s
-    one_next s k self within apart reported =
-        let long = self.long in
-        let part : part_of es i (i + s.len) ≡ x ∷ [] = ap (λ (n : ℕ). part_of es i (i + n)) long ∙ part_one es i x l here in
-        record {
-          more = omega arith;
-          inside = omega arith;
-          few = IsWithin-more 1 s.len s.totals.counts (omega arith) (IsWithin-same 1 s.totals.counts k self.counted within);
-          fresh = fresh_more es index i x l here q fresh (i + s.len) (omega arith) (λ j k d e m n o p u. rw (only_here j d m (omega arith)) (apart (slice_index_or es k e)));
-          one_path = λ d. All-part_from es i (i + s.len) (λ r. same_path (slice_index_or es i d) r ≡ true) (λ j e m n o.
-              same_from_path (slice_index_or es i d) (slice_index_or es j e) (ap (λ (y : IndexEntry). y.path) (here d ∙ sym (only_here j e m (omega arith)))));
-          specified = λ t. rw part (reported t);
-        }
-
     skipped_apart : is_skipped q x ≡ true → (r : IndexEntry) → takes_over q x r ≡ false
     skipped_apart h r = and_left _ _ (and_left _ _ (and_left _ _ (not_from_true _ h)))
 
@@ -93,17 +82,13 @@ module _ (es : List IndexEntry) (index : IsIndex es) (i : ℕ) (x : IndexEntry) 
     skipped_step s h none counted read =
         step_of_one s (skipped_verdict q es x first h ∙ ap Ok (sym none)) counted (λ _. read ∙ ap (plus_reads no_reads) (sym (skipped_reads q es x first h)))
 
-    pub next_flagged : (s : Step T U) → IsSelf s 1 flagged_counts → s.status ≡ None → s.totals.reads ≡ no_reads → is_flagged x ≡ true → IsNext q es i s
-    next_flagged s self none read h =
-        let skipped : is_skipped q x ≡ true = or_left _ _ h in
-        one_next s flagged_counts self flagged_within (skipped_apart skipped)
-        (λ _. skipped_step s skipped none (self.counted ∙ sym (one-flagged q es x first h)) read)
+    flagged_step : (s : Step T U) → IsSelf s 1 flagged_counts → s.status ≡ None → s.totals.reads ≡ no_reads → is_flagged x ≡ true → IsStepOf q es (x ∷ []) s
+    flagged_step s self none read h =
+        skipped_step s (or_left _ _ h) none (self.counted ∙ sym (one-flagged q es x first h)) read
 
-    pub next_excluded : (s : Step T U) → IsSelf s 1 excluded_counts → s.status ≡ None → s.totals.reads ≡ no_reads → is_flagged x ≡ false → is_excluded q x ≡ true → IsNext q es i s
-    next_excluded s self none read f h =
-        let skipped : is_skipped q x ≡ true = or_right _ _ h in
-        one_next s excluded_counts self excluded_within (skipped_apart skipped)
-        (λ _. skipped_step s skipped none (self.counted ∙ sym (one-excluded q es x first f h)) read)
+    excluded_step : (s : Step T U) → IsSelf s 1 excluded_counts → s.status ≡ None → s.totals.reads ≡ no_reads → is_flagged x ≡ false → is_excluded q x ≡ true → IsStepOf q es (x ∷ []) s
+    excluded_step s self none read f h =
+        skipped_step s (or_right _ _ h) none (self.counted ∙ sym (one-excluded q es x first f h)) read
 
     module _ (kept : is_skipped q x ≡ false) where
       pub next_fault : (error : Error) → stage_of x ≡ 0 → IsDecided q x (Err error) → IsFaultAt q es i error
@@ -111,15 +96,12 @@ module _ (es : List IndexEntry) (index : IsIndex es) (i : ℕ) (x : IndexEntry) 
           inl (λ d. ap (verdict q es) (here d) ∙ status_verdict q es x first kept (eq-eqb (stage_of x) 0 plain) ∙ e)
       next_fault error plain (inr e) = inr e
 
-      pub next_decided : (s : Step T U) (d : Decided T U) → IsSelf s 1 (decided_counts d) → s.status ≡ d.status → s.totals.reads ≡ plus_reads no_reads d.reads → stage_of x ≡ 0 → (IsTrue q.modelled → IsDecided q x (Ok d)) → IsNext q es i s
-      next_decided s d self same read plain decided =
+      decided_step : (s : Step T U) (d : Decided T U) → IsSelf s 1 (decided_counts d) → s.status ≡ d.status → s.totals.reads ≡ plus_reads no_reads d.reads → stage_of x ≡ 0 → IsDecided q x (Ok d) → IsStepOf q es (x ∷ []) s
+      decided_step s d self same read plain h =
           let zero = eq-eqb (stage_of x) 0 plain in
-          one_next s (decided_counts d) self (decided_within d) (plain_apart plain)
-          (λ t.
-          let h = decided t in
           step_of_one s (status_verdict q es x first kept zero ∙ h.status ∙ ap Ok (sym same))
           (self.counted ∙ sym (one-decided q es x first kept zero d h))
-          (λ r. read ∙ ap (plus_reads no_reads) (sym (decision_reads q es x first kept zero d h r))))
+          (λ r. read ∙ ap (plus_reads no_reads) (sym (decision_reads q es x first kept zero d h r)))
 
       -- x is the head of a conflict.
       module _ (staged : 0 < stage_of x) where
@@ -144,24 +126,95 @@ module _ (es : List IndexEntry) (index : IsIndex es) (i : ℕ) (x : IndexEntry) 
         run_some =
             omega (arith, some es index i x l here 3 three staged, length-prefix_len (is_in_run x.path) (take 3 (drop i es)))
 
-        pub next_conflict : (s : Step T U) → IsSelf s (length (run_at es i x.path)) conflict_counts → s.status ≡ conflict_status (run_at es i x.path) → s.totals.reads ≡ no_reads → IsNext q es i s
-        next_conflict s self reported read =
+        conflict_step : (s : Step T U) → IsSelf s (length (run_at es i x.path)) conflict_counts → s.status ≡ conflict_status (run_at es i x.path) → s.totals.reads ≡ no_reads → IsStepOf q es (part_of es i (i + s.len)) s
+        conflict_step s self reported read =
             let long : s.len ≡ n = self.long ∙ length-prefix_len (is_in_run x.path) (take 3 (drop i es)) in
             let more = some es index i x l here 3 three staged in
-            let within = inside es index i x l here 3 three staged in
             let zero = ne_eqb (stage_of x) 0 (λ e. omega arith) in
             let stages = stages_are es index i x l here 3 three staged ∙ part_is_run es index i x l here 3 three staged in
             let part : part_of es i (i + n) ≡ x ∷ part_of es (i + 1) (i + n) = part_split es i (i + 1) (i + n) (omega arith) (omega arith) ∙ ap (λ (ys : List IndexEntry). ys ++ part_of es (i + 1) (i + n)) (part_one es i x l here) in
             let same : part_of es i (i + s.len) ≡ x ∷ part_of es (i + 1) (i + n) = ap (λ (k : ℕ). part_of es i (i + k)) long ∙ part in
-            record {
-              more = omega arith;
-              inside = omega arith;
-              few = IsWithin-same s.len s.totals.counts conflict_counts self.counted (conflict_within s.len (omega arith));
-              fresh = fresh_more es index i x l here q fresh (i + s.len) (omega arith) (λ j k d e m o p u v. run_apart es index i x l here 3 three staged q j k d e m (omega arith) (omega arith) v);
-              one_path = λ d. All-part_from es i (i + s.len) (λ r. same_path (slice_index_or es i d) r ≡ true) (λ j e m o p.
-                  rw (here d) (same_back (slice_index_or es j e) x (run_same es index i x l here 3 three staged j e m (omega arith))));
-              specified = λ _. step_of q es x (part_of es (i + 1) (i + n)) later (part_of es i (i + s.len)) s same
-                  (conflict_verdict q es x first kept zero ∙ ap (λ (ys : List IndexEntry). Ok (conflict_status ys)) stages ∙ ap Ok (sym reported))
-                  (self.counted ∙ sym (one-conflict q es x first kept zero))
-                  (λ _. read ∙ ap (plus_reads no_reads) (sym (conflict_reads q es x first kept zero)));
-            }
+            step_of q es x (part_of es (i + 1) (i + n)) later (part_of es i (i + s.len)) s same
+            (conflict_verdict q es x first kept zero ∙ ap (λ (ys : List IndexEntry). Ok (conflict_status ys)) stages ∙ ap Ok (sym reported))
+            (self.counted ∙ sym (one-conflict q es x first kept zero))
+            (λ _. read ∙ ap (plus_reads no_reads) (sym (conflict_reads q es x first kept zero)))
+
+  -- The steps, by the models and by a view of each entry. An entry that isn't compared may have any view.
+  module _ {T U : Type 0} (q : Query T U) (may : Allows T U) (free : Views T U) (freely : (e : IndexEntry) → may e (free e)) (fresh : IsFresh q (take i es) (drop i es)) where
+    abbrev unseen : Query T U
+    unseen = as_seen q free
+
+    unlooked : (part : List IndexEntry) (s : Step T U) → IsStepOf unseen es part s → ∥ IsStepSeen q may es part s ∥₁
+    unlooked part s step = merely (record { views = free; allowed = λ k d m. freely (slice_index_or part k d); step = step })
+
+    one_next : (s : Step T U) (k : Counts) → IsSelf s 1 k → IsWithin 1 k → ((r : IndexEntry) → takes_over q x r ≡ false) → (IsTrue q.modelled → IsStepOf q es (x ∷ []) s) → ∥ IsStepSeen q may es (x ∷ []) s ∥₁ → IsNext q may es i s
+    one_next s k self within apart reported seen =
+        let long = self.long in
+        let part : part_of es i (i + s.len) ≡ x ∷ [] = ap (λ (n : ℕ). part_of es i (i + n)) long ∙ part_one es i x l here in
+        record {
+          index = index;
+          more = omega arith;
+          inside = omega arith;
+          few = IsWithin-more 1 s.len s.totals.counts (omega arith) (IsWithin-same 1 s.totals.counts k self.counted within);
+          fresh = fresh_more es index i x l here q fresh (i + s.len) (omega arith) (λ j k d e m n o p u. rw (only_here j d m (omega arith)) (apart (slice_index_or es k e)));
+          one_path = λ d. All-part_from es i (i + s.len) (λ r. same_path (slice_index_or es i d) r ≡ true) (λ j e m n o.
+              same_from_path (slice_index_or es i d) (slice_index_or es j e) (ap (λ (y : IndexEntry). y.path) (here d ∙ sym (only_here j e m (omega arith)))));
+          specified = λ t. rw part (reported t);
+          seen = rw part seen;
+        }
+
+    pub next_flagged : (s : Step T U) → IsSelf s 1 flagged_counts → s.status ≡ None → s.totals.reads ≡ no_reads → is_flagged x ≡ true → IsNext q may es i s
+    next_flagged s self none read h =
+        one_next s flagged_counts self flagged_within (skipped_apart q fresh (or_left _ _ h))
+        (λ _. flagged_step q fresh s self none read h) (unlooked (x ∷ []) s (flagged_step unseen fresh s self none read h))
+
+    pub next_excluded : (s : Step T U) → IsSelf s 1 excluded_counts → s.status ≡ None → s.totals.reads ≡ no_reads → is_flagged x ≡ false → is_excluded q x ≡ true → IsNext q may es i s
+    next_excluded s self none read f h =
+        one_next s excluded_counts self excluded_within (skipped_apart q fresh (or_right _ _ h))
+        (λ _. excluded_step q fresh s self none read f h) (unlooked (x ∷ []) s (excluded_step unseen fresh s self none read f h))
+
+    module _ (kept : is_skipped q x ≡ false) where
+      fault_seen : (error : Error) → stage_of x ≡ 0 → IsSeenDecided may q x (Err error) → IsFaultSeen q may es i error
+      fault_seen error plain h =
+          let P : IndexEntry → Type 0 = λ e. may e h.view in
+          record {
+            views = λ _. h.view;
+            allowed = λ d. subst P (sym (here d)) h.allowed;
+            fault = next_fault (as_seen q (λ _. h.view)) fresh kept error plain h.decided;
+          }
+
+      pub next_faulty : (error : Error) → stage_of x ≡ 0 → (IsTrue q.modelled → IsDecided q x (Err error)) → ∥ IsSeenDecided may q x (Err error) ∥₁ → IsFaulty q may es i error
+      next_faulty error plain decided seen = record {
+        specified = λ t. next_fault q fresh kept error plain (decided t);
+        seen = ∥∥₁_map seen (fault_seen error plain);
+      }
+
+      pub next_decided : (s : Step T U) (d : Decided T U) → IsSelf s 1 (decided_counts d) → s.status ≡ d.status → s.totals.reads ≡ plus_reads no_reads d.reads → stage_of x ≡ 0 → (IsTrue q.modelled → IsDecided q x (Ok d)) → ∥ IsSeenDecided may q x (Ok d) ∥₁ → IsNext q may es i s
+      next_decided s d self same read plain decided seen =
+          one_next s (decided_counts d) self (decided_within d) (plain_apart q fresh plain)
+          (λ t. decided_step q fresh kept s d self same read plain (decided t)) (∥∥₁_map seen seen_step)
+        where
+          seen_step : IsSeenDecided may q x (Ok d) → IsStepSeen q may es (x ∷ []) s
+          seen_step h = record {
+            views = λ _. h.view;
+            allowed = All-cons (λ e. may e h.view) x [] h.allowed (All-nil (λ e. may e h.view));
+            step = decided_step (as_seen q (λ _. h.view)) fresh kept s d self same read plain h.decided;
+          }
+
+      pub next_conflict : (staged : 0 < stage_of x) (s : Step T U) → IsSelf s (length (run_at es i x.path)) conflict_counts → s.status ≡ conflict_status (run_at es i x.path) → s.totals.reads ≡ no_reads → IsNext q may es i s
+      next_conflict staged s self reported read =
+          let three : 3 ≤ 3 = omega arith in
+          let long : s.len ≡ count es index i x l here 3 three staged = self.long ∙ length-prefix_len (is_in_run x.path) (take 3 (drop i es)) in
+          let more = some es index i x l here 3 three staged in
+          let within = inside es index i x l here 3 three staged in
+          record {
+            index = index;
+            more = omega arith;
+            inside = omega arith;
+            few = IsWithin-same s.len s.totals.counts conflict_counts self.counted (conflict_within s.len (omega arith));
+            fresh = fresh_more es index i x l here q fresh (i + s.len) (omega arith) (λ j k d e m o p u v. run_apart es index i x l here 3 three staged q j k d e m (omega arith) (omega arith) v);
+            one_path = λ d. All-part_from es i (i + s.len) (λ r. same_path (slice_index_or es i d) r ≡ true) (λ j e m o p.
+                rw (here d) (same_back (slice_index_or es j e) x (run_same es index i x l here 3 three staged j e m (omega arith))));
+            specified = λ _. conflict_step q fresh kept staged s self reported read;
+            seen = unlooked (part_of es i (i + s.len)) s (conflict_step unseen fresh kept staged s self reported read);
+          }

@@ -91,7 +91,7 @@ module _ {T U : Type 0} (q : Query T U) where
 
   -- `lstat` is called: the link check accepts the path, and the listings don't know it.
   abbrev pub calls_lstat : IndexEntry → Bool
-  calls_lstat e = is_accepted (link_check q.lstat e.path) && not (is_some (q.cached e.path))
+  calls_lstat e = is_accepted (link_check (q.lstat e) e.path) && not (is_some (q.cached e))
 
   abbrev pub reads_of_found : IndexEntry → Found → Reads
   reads_of_found e (present n) = unwrap_or (q.counted e n.len (readings q e n) no_reads) no_reads

@@ -70,10 +70,6 @@ IsDecisionOf c stat executable_changed trusted racy d =
     (path : List ℕ) (counted : Option Reads) → IfSome counted (λ k. c.reads ≡ k)
     → IsOfCase path (compared executable_changed trusted racy stat (Ok c.change)) false counted d
 
--- The look-up of a path is the one of a query.
-abbrev pub IsLooked : {T U : Type 0} → Query T U → List ℕ → Result Look Error → Type 0
-IsLooked q path result = IsTrue q.modelled → IsLookAt q.lstat (q.cached path) path result
-
 module _ {T U : Type 0} (q : Query T U) (e : IndexEntry) (n : Metadata) where
   -- The comparer's reads of an entry and its node.
   abbrev pub counted_of : Option Reads

@@ -5,6 +5,7 @@ pub mod Decisions
 pub mod DefaultCapabilities
 pub mod DefaultOptions
 pub mod EntryParts
+pub mod EntrySights
 pub mod IndexChanges
 pub mod Inputs
 pub mod Laws
@@ -22,8 +23,10 @@ pub mod Runs
 pub mod Status
 pub mod StatusOf
 pub mod StatusTable
+pub mod StatusSeen
 pub mod StatusTheorem
 pub mod Steps
+pub mod Views
 pub mod Visits
 pub mod WorkInOrder
 pub mod Workers

@@ -32,7 +32,7 @@ AreLive listing lstat = (path : List ℕ) → link_check lstat path ≡ accepted
 module _ {T U : Type 0} where
   -- The same query with listings, and without.
   abbrev pub with_listings : Query T U → (List ℕ → Listing) → Query T U
-  with_listings q listing = record q { cached = known_node true listing }
+  with_listings q listing = record q { cached = λ e. known_node true listing e.path }
 
   abbrev pub without_listings : Query T U → Query T U
   without_listings q = record q { cached = λ _. None }
@@ -44,5 +44,5 @@ module _ {T U : Type 0} where
 
   -- Listings change no record or fault if they are as `lstat` has it and executability doesn't count.
   abbrev pub ListingsLaw : Query T U → Type 0
-  ListingsLaw q = (listing : List ℕ → Listing) → AreLive listing q.lstat → q.executable_bit ≡ false
+  ListingsLaw q = (listing : List ℕ → Listing) → ((e : IndexEntry) → AreLive listing (q.lstat e)) → q.executable_bit ≡ false
       → IsSameStatus (with_listings q listing) (without_listings q)

@@ -23,12 +23,12 @@ pub record Query (T U : Type 0) : Type 0 where
   pub executable_bit : Bool
   -- The time at which the index was written.
   pub timestamp : Moment
-  -- The worktree.
-  pub lstat : List ℕ → Result Metadata Fault
+  -- The worktree. The result of `lstat` at a path may depend on the entry for which it is called.
+  pub lstat : IndexEntry → List ℕ → Result Metadata Fault
   pub opened : List ℕ → Result Content Fault
   pub linked : List ℕ → Result (List ℕ) Fault
-  -- The node that listings of directories know at a path; none if listings aren't used.
-  pub cached : List ℕ → Option Metadata
+  -- The node that listings of directories know at an entry's path; none if listings aren't used.
+  pub cached : IndexEntry → Option Metadata
   -- The pathspec: the common prefix, and whether a path is included, by whether it is a directory's.
   pub prefix : List ℕ
   pub included : List ℕ → Bool → Bool

@@ -7,6 +7,7 @@ use Rattle.status_call.specs.declared.index_as_worktree.piece.End.TheVariants.{W
 use Rattle.status_call.specs.declared.index_as_worktree.piece.Piece.{Piece}
 use Rattle.status_call.specs.Pieces.{IsCut, IsPiece, IsUninterrupted}
 use Rattle.status_call.specs.Query.{Query}
+use Rattle.status_call.specs.Views.{Allows}
 
 -- The start of the first piece, and the end of each. No path has entries in two pieces.
 pub record AreBounds (es : List IndexEntry) (bounds : List ℕ) : Type 0 where
@@ -41,11 +42,11 @@ is_short Whole = false
 is_short Interrupted = true
 is_short (Faulty x) = true
 
-module _ {T U : Type 0} (q : Query T U) (interruptible : Bool) (start : ℕ) (es : List IndexEntry)
+module _ {T U : Type 0} (q : Query T U) (may : Allows T U) (interruptible : Bool) (start : ℕ) (es : List IndexEntry)
   where
     -- The possible results of the piece from position `at` to position `to`.
     pub record IsResult (at to : ℕ) (p : Piece T U) : Type 0 where
-      pub piece : IsPiece q start es at to p
+      pub piece : IsPiece q may start es at to p
       pub uninterrupted : interruptible ≡ false → IsUninterrupted p.end
 
     -- A piece from position `at` on.

@@ -121,10 +121,14 @@ reads_link symlink modes.File kind = false
 reads_link symlink modes.FileExecutable kind = false
 reads_link symlink modes.Commit kind = false
 
+-- The case of an entry whose path has a directory, by the submodule's result.
+abbrev pub directory_case : {T U : Type 0} → IndexEntry → Result (Option U) (List ℕ) → Case T U
+directory_case e said = if is_submodule e.mode then in_submodule said else gone
+
 module _ {T U : Type 0} (q : Query T U) where
   -- The node at an entry's path.
   abbrev pub found : IndexEntry → Found
-  found e = found_by (link_check q.lstat e.path) (cached_or (q.cached e.path) (q.lstat e.path))
+  found e = found_by (link_check (q.lstat e) e.path) (cached_or (q.cached e) (q.lstat e e.path))
 
   -- The stat agrees, and the size is 0 exactly if the id is the empty blob's.
   abbrev pub is_trusted : IndexEntry → Stat → Bool
@@ -160,7 +164,7 @@ module _ {T U : Type 0} (q : Query T U) where
   abbrev pub case_of_found : IndexEntry → Found → Case T U
   case_of_found e nothing = gone
   case_of_found e (refused f) = fails f
-  case_of_found e directory = if is_submodule e.mode then in_submodule (q.submodule e) else gone
+  case_of_found e directory = directory_case e (q.submodule e)
   case_of_found e (present n) =
       if has_flag e INTENT_TO_ADD then added else case_of_stat e n (stat_of n)
 

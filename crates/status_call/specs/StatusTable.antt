@@ -46,11 +46,11 @@ pub data Row : Type 0 where
 module _ {T U : Type 0} (q : Query T U) (e : IndexEntry) where
   -- The result of a new link check of the entry's path.
   abbrev pub check_of : LinkCheck
-  check_of = link_check q.lstat e.path
+  check_of = link_check (q.lstat e) e.path
 
   -- The node that the listings know at the path, otherwise the result of `lstat`.
   abbrev pub node_of : Result Metadata Fault
-  node_of = cached_or (q.cached e.path) (q.lstat e.path)
+  node_of = cached_or (q.cached e) (q.lstat e e.path)
 
   -- The path leads through a link; a fault of absence is on the way or at the path; or a directory is at the path of an entry
   -- that is no submodule's.

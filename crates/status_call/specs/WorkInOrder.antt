@@ -1,5 +1,5 @@
 -- Considered entries from a position on, processed in order.
-use Rattle.std.specs.Prelude.{◌≡◌, ◌⊎◌, ℕ, ◌<◌, Bool, false, IsTrue, List, length, Option, Some, Result, Ok, Err}
+use Rattle.std.specs.Prelude.{◌≡◌, ◌⊎◌, ℕ, ◌<◌, Bool, false, List, length, Result, Ok, Err}
 use Rattle.status_index.specs.Entries.{IndexEntry}
 use Rattle.status_compare.specs.declared.error.Error.{Error}
 use Rattle.status_compare.specs.declared.error.Error.TheVariants.{Memory, SpawnThread}
@@ -9,9 +9,10 @@ use Rattle.status_call.specs.declared.index_as_worktree.counts.Progress.{Progres
 use Rattle.status_call.specs.declared.index_as_worktree.counts.Totals.{Totals}
 use Rattle.status_call.specs.declared.index_as_worktree.types.Finding.{Finding}
 use Rattle.status_call.specs.Reporting.{Reports}
-use Rattle.status_call.specs.Pieces.{IsDone, IsFaultAt}
+use Rattle.status_call.specs.Pieces.{IsDone, IsFaulty}
 use Rattle.status_call.specs.Query.{Query}
 use Rattle.status_call.specs.StatusTheorem.{IsBeginning}
+use Rattle.status_call.specs.Views.{Allows}
 use Rattle.status_call.specs.Visits.{Visit}
 
 -- The error of a round that couldn't be processed.
@@ -23,22 +24,22 @@ shortage_of refusals.Memory = Memory
 abbrev pub IsShortage : ℕ → Error → Type 0
 IsShortage workers e = (e ≡ Memory) ⊎ ((e ≡ SpawnThread) × (1 < workers))
 
-module _ {T U : Type 0} (q : Query T U) (start : ℕ) (es : List IndexEntry) (from : ℕ) where
+module _ {T U : Type 0} (q : Query T U) (may : Allows T U) (start : ℕ) (es : List IndexEntry) (from : ℕ) where
   -- The work ended: at an entry that has a fault or runs out of memory, or because it couldn't go on.
   pub record IsWorkStopped (workers : ℕ) (reported : List (Finding T U)) (e : Error) : Type 0 where
     pub place : ℕ
     pub found : List (Finding T U)
     pub totals : Totals
-    pub done : IsDone q start es from place found totals
+    pub done : IsDone q may start es from place found totals
     pub by : ((reported ≡ found) × (place < length es)
-        × (IsTrue q.modelled → IsFaultAt q es place e))
+        × IsFaulty q may es place e)
         ⊎ (IsShortage workers e × IsBeginning reported found)
 
   -- The entries up to a position are done: it is `to`, or the interrupt flag was seen there.
   pub record IsWorkReached (interruptible : Bool) (to : ℕ) (reported : List (Finding T U))
       (p : Progress) : Type 0 where
     pub place : ℕ
-    pub done : IsDone q start es from place reported p.totals
+    pub done : IsDone q may start es from place reported p.totals
     pub reached : p.interrupted ≡ false → place ≡ to
     pub uninterrupted : interruptible ≡ false → p.interrupted ≡ false
 
@@ -51,7 +52,7 @@ module _ {T U : Type 0} (q : Query T U) (start : ℕ) (es : List IndexEntry) (fr
     pub record IsWorkSoFar (at : ℕ) (totals : Totals) (old now : List (Visit T U)) : Type 0 where
       pub reported : List (Finding T U)
       pub fed : Reports faithful reported old now
-      pub done : IsDone q start es from at reported totals
+      pub done : IsDone q may start es from at reported totals
 
     -- The records that were reported, and how the work ended.
     pub record IsReportedWork (interruptible : Bool) (workers to : ℕ) (old : List (Visit T U))
@@ -59,11 +60,3 @@ module _ {T U : Type 0} (q : Query T U) (start : ℕ) (es : List IndexEntry) (fr
       pub reported : List (Finding T U)
       pub fed : Reports faithful reported old new
       pub ended : IsWorkEnd interruptible workers to reported result
-
--- The same for all considered entries, by a thread limit.
-pub record IsLimitedWork {T U : Type 0} (q : Query T U) (start : ℕ) (es : List IndexEntry)
-    (faithful : Visit T U → Type 0) (interruptible : Bool) (limit : Option ℕ)
-    (old : List (Visit T U)) (result : Result Progress Error) (new : List (Visit T U)) : Type 0 where
-  pub workers : ℕ
-  pub alone : limit ≡ Some 1 → workers ≡ 1
-  pub work : IsReportedWork q start es 0 faithful interruptible workers (length es) old result new

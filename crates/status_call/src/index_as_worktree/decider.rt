@@ -1,13 +1,16 @@
 //! The decider of entries over a worktree.
 
-ghost use Rattle.std.specs.Prelude.{◌≡◌, Option, Result, IsTrue};
+ghost use Rattle.std.specs.Prelude.{◌≡◌, false, Option, Some, Result, IsTrue};
 ghost use Rattle.std.proofs.Props.{props};
 ghost use Rattle.bstr.specs.BStr.{bstr_bytes};
 ghost use Rattle.status_base.specs.CheckState.{IsClear};
+ghost use Rattle.status_base.specs.ListedNodes.{known_node};
+ghost use Rattle.status_base.specs.Sights.{IsOpen};
 ghost use Rattle.status_index.specs.Entries.{entry_at};
-ghost use Rattle.status_compare.specs.Reading.{IsSpecified};
+ghost use Rattle.status_call.specs.EntrySights.{IsContentSeen, IsDirectorySeen, IsLookSeen, IsNodeSeen};
 ghost use Rattle.status_call.specs.LookUps.{Keeps};
-ghost use Rattle.status_call.specs.Status.{answer, in_submodule};
+ghost use Rattle.status_compare.specs.Reads.{no_reads};
+ghost use Rattle.status_call.specs.Status.{directory_case};
 
 use crate::index_as_worktree::content::{
     Candidate, compare_node, decision_of, is_trusted, needs_comparison, unread,
@@ -15,20 +18,20 @@ use crate::index_as_worktree::content::{
 use crate::index_as_worktree::inputs::{Ask, Inputs, Settings};
 use crate::index_as_worktree::lookup::{AtPath, Known, Look, look_up};
 use crate::index_as_worktree::step::{Decide, Decided};
+use crate::index_as_worktree::submodule::submodule_status;
 use crate::index_as_worktree::types::{Change, EntryStatus, Error};
 use bitflags::Flags as _;
 use bstr::{BStr, BString};
 use status_base::fscache::Listings;
 use status_base::stack::SymlinkCheck;
-use status_base::worktree::{
-    ByteText, Find, Lister, Pathspec, SubmoduleFault, SubmoduleStatus, ToGit, Worktree,
-};
+use status_base::worktree::{Find, Lister, Pathspec, SubmoduleStatus, ToGit, Worktree};
 use status_compare::CompareBlobs;
 use status_index::{Entry, Flags, Stat, mode};
 use std::alloc::{AllocError, Global};
 
 /// Decides entries over a worktree. It keeps its buffers and listings, so an entry whose stat decides takes no memory,
-/// unless its directory has to be listed first.
+/// unless its directory has to be listed first. For each directory that its check found open, the worktree returned a result
+/// that shows this.
 #[derive(Drop)]
 pub struct Decider<'w, W: Worktree, C, S, O, P, T, L: Lister> {
     alloc: Global,
@@ -38,6 +41,7 @@ pub struct Decider<'w, W: Worktree, C, S, O, P, T, L: Lister> {
     buffer: Vec<u8>,
     ghost clear: { IsTrue (W.modelled inputs.worktree.now)
         → IsClear (W.lstat_of inputs.worktree.now) known.check.path },
+    ghost opened: { ∥ IsOpen (W.may_stat inputs.worktree.now) known.check.path ∥₁ },
     ghost kept: { Keeps (L.modelled inputs.lister)
         (L.listing inputs.lister) known.listings } by { Prim.hlevel props },
 }
@@ -56,7 +60,7 @@ where
     C::Output: Drop,
     S::Output: Drop,
 {
-    ghost use Rattle.status_call.specs.EntryParts.{IsNodeDecided, IsContentDecided, IsLooked, candidate_entry};
+    ghost use Rattle.status_call.specs.EntryParts.{IsCaseDecided, IsNodeDecided, IsContentDecided, IsLookAt, candidate_entry};
 
     /// Makes a decider with these settings.
     pub fn new(
@@ -64,8 +68,10 @@ where
         inputs: Inputs<'w, W, C, S, O, P, T, L>,
         settings: Settings,
     ) -> Decider<'w, W, C, S, O, P, T, L>
-        ensures { ⟦<Decider<'w, W, C, S, O, P, T, L> as Decide>⟧.query result
+        ensures query { ⟦<Decider<'w, W, C, S, O, P, T, L> as Decide>⟧.query result
             ≡ ⟦<Inputs<'w, W, C, S, O, P, T, L> as Ask>⟧.query inputs.entry settings }
+        ensures inputs { result.inputs ≡ inputs.entry }
+        ensures settings { result.settings ≡ settings }
     {
         let root = BString::new(Vec::new(alloc));
         let check = SymlinkCheck::new(alloc, root);
@@ -84,8 +90,12 @@ where
     /// # Errors
     /// A path that isn't normal, a fault other than one of absence, or out of memory.
     fn look(&mut self, path: BStr<'_>) -> Result<Look, Error>
-        ensures look { IsLooked (⟦<Decider<'w, W, C, S, O, P, T, L> as Decide>⟧.query self.old)
+        ensures look { IsTrue (⟦<Decider<'w, W, C, S, O, P, T, L> as Decide>⟧.query self.old).modelled
+            → IsLookAt (W.lstat_of self.old.inputs.worktree.now)
+            (known_node self.old.settings.fscache (L.listing self.old.inputs.lister) (bstr_bytes path.entry))
             (bstr_bytes path.entry) result }
+        ensures seen { ∥ IsLookSeen (W.may_stat self.old.inputs.worktree.now) self.old.settings.fscache
+            (bstr_bytes path.entry) result ∥₁ }
         ensures inputs { self.new.inputs ≡ self.old.inputs }
         ensures settings { self.new.settings ≡ self.old.settings }
     {
@@ -96,6 +106,31 @@ where
             &self.inputs.lister,
             path,
         )
+    }
+
+    /// Decides an entry whose path has a directory: a submodule's entry by the submodule's status.
+    ///
+    /// # Errors
+    /// The submodule's error, or out of memory.
+    fn decide_directory(
+        &mut self,
+        entry: &Entry,
+        path: BStr<'_>,
+    ) -> Result<Decided<C::Output, S::Output>, Error>
+        ensures decided { let e = entry_at (bstr_bytes path.entry) entry.now in
+            IsTrue (S.modelled self.old.inputs.submodule)
+            → IsCaseDecided e.path (directory_case e (S.status_of self.old.inputs.submodule e)) false (Some no_reads) result }
+        ensures seen { IsDirectorySeen (entry_at (bstr_bytes path.entry) entry.now) result }
+        ensures same { ⟦<Decider<'w, W, C, S, O, P, T, L> as Decide>⟧.query self.new
+            ≡ ⟦<Decider<'w, W, C, S, O, P, T, L> as Decide>⟧.query self.old }
+        ensures kept { (self.new.inputs.worktree ≡ self.old.inputs.worktree)
+            × (self.new.settings ≡ self.old.settings) }
+    {
+        if !entry.mode.is_submodule() {
+            return Ok(unread(Some(EntryStatus::Change(Change::Removed)), false));
+        }
+        let status = submodule_status(self.alloc, &mut self.inputs.submodule, entry, path)?;
+        Ok(unread(status, false))
     }
 
     /// Decides an entry whose path has a node that is no directory.
@@ -109,6 +144,9 @@ where
         ensures decided { IsNodeDecided
             (⟦<Decider<'w, W, C, S, O, P, T, L> as Decide>⟧.query self.old)
             (candidate_entry candidate.now) candidate.now.node result }
+        ensures seen { IsNodeSeen self.old.settings (candidate_entry candidate.now) candidate.now.node result }
+        ensures kept { (self.new.inputs.worktree ≡ self.old.inputs.worktree)
+            × (self.new.settings ≡ self.old.settings) }
         ensures same { ⟦<Decider<'w, W, C, S, O, P, T, L> as Decide>⟧.query self.new
             ≡ ⟦<Decider<'w, W, C, S, O, P, T, L> as Decide>⟧.query self.old }
     {
@@ -148,6 +186,9 @@ where
             (⟦<Decider<'w, W, C, S, O, P, T, L> as Decide>⟧.query self.old)
             (candidate_entry candidate.now) candidate.now.node stat
             executable_bit_changed result }
+        ensures seen { IsContentSeen self.old.settings (candidate_entry candidate.now) candidate.now.node stat executable_bit_changed result }
+        ensures kept { (self.new.inputs.worktree ≡ self.old.inputs.worktree)
+            × (self.new.settings ≡ self.old.settings) }
         ensures same { ⟦<Decider<'w, W, C, S, O, P, T, L> as Decide>⟧.query self.new
             ≡ ⟦<Decider<'w, W, C, S, O, P, T, L> as Decide>⟧.query self.old }
     {
@@ -177,11 +218,16 @@ where
     C::Output: Drop,
     S::Output: Drop,
 {
+    ghost use Rattle.std.proofs.Common.{refl};
+    ghost use Rattle.status_call.specs.EntrySights.{IsViewAllowed};
+
     type Content = C::Output;
 
     type Submodule = S::Output;
 
     ghost query = { λ d. ⟦<Inputs<'w, W, C, S, O, P, T, L> as Ask>⟧.query d.inputs d.settings };
+
+    ghost allows = { λ d e v. IsViewAllowed (W.may_stat d.inputs.worktree.now) d.settings.fscache v };
 
     fn common_prefix(&self) -> BStr<'_> {
         self.inputs.pathspec.common_prefix()
@@ -203,15 +249,13 @@ where
         } = self.look(path)?;
         match presence {
             AtPath::Nothing => Ok(unread(Some(EntryStatus::Change(Change::Removed)), lstat_called)),
-            AtPath::Directory if entry.mode.is_submodule() => {
-                let submodule = &mut self.inputs.submodule;
-                let status = submodule_status(self.alloc, submodule, entry, path)?;
-                Ok(unread(status, lstat_called))
+            AtPath::Directory => {
+                let decided = self.decide_directory(entry, path)?;
+                Ok(Decided {
+                    lstat_called,
+                    ..decided
+                })
             }
-            AtPath::Directory => Ok(unread(
-                Some(EntryStatus::Change(Change::Removed)),
-                lstat_called,
-            )),
             AtPath::Node(node) => {
                 let decided = self.decide_node(&Candidate { entry, path, node })?;
                 Ok(Decided {
@@ -226,34 +270,6 @@ where
         let inputs = self.inputs.another()?;
         Ok(Decider::new(self.alloc, inputs, self.settings))
     }
-}
 
-/// Returns the status of a submodule's entry whose directory is there.
-///
-/// # Errors
-/// The submodule's error, with the entry's path, or out of memory.
-fn submodule_status<T, S: SubmoduleStatus>(
-    alloc: Global,
-    submodule: &mut S,
-    entry: &Entry,
-    path: BStr<'_>,
-) -> Result<Option<EntryStatus<T, S::Output>>, Error>
-    ensures answer { let e = entry_at (bstr_bytes path.entry) entry.now in
-        IsTrue (S.modelled submodule.old)
-        → IsSpecified (answer {T = T} e.path (in_submodule (S.status_of submodule.old e))) result }
-    ensures same { S.status_of submodule.new ≡ S.status_of submodule.old }
-    ensures modelled { S.modelled submodule.new ≡ S.modelled submodule.old }
-{
-    match submodule.status(entry, path) {
-        Ok(None) => Ok(None),
-        Ok(Some(change)) => {
-            let change = Change::SubmoduleModification(change);
-            Ok(Some(EntryStatus::Change(change)))
-        }
-        Err(SubmoduleFault::Failed { text }) => {
-            let rela_path = ByteText::from_slice(alloc, path.as_bytes())?;
-            Err(Error::SubmoduleStatus { rela_path, text })
-        }
-        Err(SubmoduleFault::Memory) => Err(Error::Memory),
-    }
+    ghost free = { λ d e. record { stats = λ path. W.stat_may_fail d.inputs.worktree.now path; unlisted = λ _. refl } };
 }

@@ -3,7 +3,7 @@
 
 ghost use Rattle.std.specs.Prelude.{◌≡◌, None, IfOk, false};
 ghost use Rattle.status_call.specs.Inputs.{inputs_of, usual};
-ghost use Rattle.status_call.specs.StatusOf.{OneThreadCallSpawnsNone, IsStatus, IsWithoutThread};
+ghost use Rattle.status_call.specs.StatusOf.{OneThreadCallSpawnsNone, IsStatus, IsStatusByAnswers, IsWithoutThread};
 
 use crate::index_as_worktree::decider::Decider;
 use crate::index_as_worktree::inputs::{Ask, Inputs, Settings, UsualInputs};
@@ -36,8 +36,9 @@ use std::thread::Threads;
 /// The fault of the first entry that has one, after the records before it were reported. A refused thread or out of
 /// memory, after a beginning of the records was reported.
 ///
-/// Exactly these records are promised if all interfaces passed are modelled. Otherwise the records ascend, and each is
-/// of the index's own entry.
+/// Over any worktree, the records and counts are exactly those of the definition for a view of each entry: for results that
+/// its `lstat` may return, and for the results of the comparer and the submodules. If all interfaces passed are modelled,
+/// these are the specified ones.
 pub fn index_as_worktree<
     'index,
     'w,
@@ -69,6 +70,9 @@ where
     ensures all { IsStatus ⟦<Inputs<'w, W, C, S, O, P, T, L> as Ask>⟧.query
         (inputs_of worktree.entry compare submodule objects context.entry)
         options index.now V.visits collector.old result collector.new }
+    ensures seen { ∥ IsStatusByAnswers ⟦<Inputs<'w, W, C, S, O, P, T, L> as Ask>⟧.query
+        (inputs_of worktree.entry compare submodule objects context.entry)
+        options index.now (W.may_stat worktree.now) V.visits collector.old result collector.new ∥₁ }
     ensures uninterrupted { context.entry.should_interrupt ≡ None
         → IfOk result (λ o. o.interrupted ≡ false) }
     ensures alone { OneThreadCallSpawnsNone ⟦<Inputs<'w, W, C, S, O, P, T, L> as Ask>⟧.query
@@ -110,6 +114,8 @@ where
     C::Output: Send,
     ensures all { IsStatus ⟦<UsualInputs<'w, W, C, P> as Ask>⟧.query
         (usual worktree.entry compare pathspec) options index.now V.visits collector.old result collector.new }
+    ensures seen { ∥ IsStatusByAnswers ⟦<UsualInputs<'w, W, C, P> as Ask>⟧.query
+        (usual worktree.entry compare pathspec) options index.now (W.may_stat worktree.now) V.visits collector.old result collector.new ∥₁ }
     ensures uninterrupted { IfOk result (λ o. o.interrupted ≡ false) }
     ensures alone { OneThreadCallSpawnsNone ⟦<UsualInputs<'w, W, C, P> as Ask>⟧.query
         (usual worktree.entry compare pathspec) options index.now result }
@@ -170,6 +176,9 @@ pub fn index_as_worktree_without_threads<
     ensures all { IsStatus ⟦<Inputs<'w, W, C, S, O, P, T, L> as Ask>⟧.query
         (inputs_of worktree.entry compare submodule objects context.entry)
         options index.now V.visits collector.old result collector.new }
+    ensures seen { ∥ IsStatusByAnswers ⟦<Inputs<'w, W, C, S, O, P, T, L> as Ask>⟧.query
+        (inputs_of worktree.entry compare submodule objects context.entry)
+        options index.now (W.may_stat worktree.now) V.visits collector.old result collector.new ∥₁ }
     ensures uninterrupted { context.entry.should_interrupt ≡ None
         → IfOk result (λ o. o.interrupted ≡ false) }
     ensures threadless { IsWithoutThread ⟦<Inputs<'w, W, C, S, O, P, T, L> as Ask>⟧.query

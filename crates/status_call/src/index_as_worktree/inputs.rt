@@ -143,10 +143,10 @@ impl<
       symlink = settings.fs.symlink;
       executable_bit = settings.fs.executable_bit;
       timestamp = settings.timestamp;
-      lstat = W.lstat_of i.worktree.now;
+      lstat = λ _. W.lstat_of i.worktree.now;
       opened = W.open_of i.worktree.now;
       linked = W.target_of i.worktree.now;
-      cached = known_node settings.fscache (L.listing i.lister);
+      cached = λ e. known_node settings.fscache (L.listing i.lister) e.path;
       prefix = P.prefix i.pathspec;
       included = P.included i.pathspec;
       conversion = λ content path. T.conversion i.filter content path;
@@ -156,7 +156,11 @@ impl<
       counted = C.counts_after i.compare;
     } };
 
-    fn another(&self) -> Result<Inputs<'w, W, C, S, O, P, T, L>, AllocError> {
+    fn another(&self) -> Result<Inputs<'w, W, C, S, O, P, T, L>, AllocError>
+        ensures same { IfOk result (λ other. ⟦<Inputs<'w, W, C, S, O, P, T, L> as Ask>⟧.query other
+            ≡ ⟦<Inputs<'w, W, C, S, O, P, T, L> as Ask>⟧.query self.now) }
+        ensures worktree { IfOk result (λ other. other.worktree ≡ self.now.worktree) }
+    {
         Ok(Inputs {
             worktree: self.worktree,
             compare: self.compare.clone()?,

@@ -1,13 +1,15 @@
 //! The look-up of the node at an entry's path.
 
-ghost use Rattle.std.specs.Prelude.{◌&&◌, Bool, IsTrue, Ok, Result};
+ghost use Rattle.std.specs.Prelude.{◌≡◌, ◌&&◌, Bool, false, IfOk, IsTrue, None, Ok, Result};
 ghost use Rattle.bstr.specs.BStr.{bstr_bytes};
 ghost use Rattle.status_base.specs.CheckState.{IsClear};
 ghost use Rattle.status_base.specs.LinkCheck.{LinkCheck};
 ghost use Rattle.status_base.specs.CheckAnswers.{IsCheckError};
 ghost use Rattle.status_index.specs.declared.stat.Metadata.{Metadata as NodeMetadata};
 ghost use Rattle.status_index.specs.declared.fault.Fault.{Fault as WorktreeFault};
+ghost use Rattle.status_base.specs.Sights.{IsOpen};
 ghost use Rattle.status_call.specs.EntryParts.{IsLook};
+ghost use Rattle.status_call.specs.EntrySights.{IsLookSeen};
 ghost use Rattle.status_call.specs.Counts.{is_accepted};
 ghost use Rattle.status_call.specs.LookUps.{IsLookUp, IsKnownByListings, Keeps};
 ghost use Rattle.status_call.specs.Status.{found_by, found_fault, found_node};
@@ -64,6 +66,10 @@ pub(crate) fn look_up<W: Worktree, L: Lister>(
         → IsLookUp fscache (L.modelled lister.now) (L.listing lister.now) known.old.listings
         (bstr_bytes path.entry)
         (W.lstat_of worktree.now) known.old.check.path result }
+    ensures seen { IsOpen (W.may_stat worktree.now) known.old.check.path
+        → IsLookSeen (W.may_stat worktree.now) fscache (bstr_bytes path.entry) result }
+    ensures opened { IsOpen (W.may_stat worktree.now) known.old.check.path
+        → IsOpen (W.may_stat worktree.now) known.new.check.path }
     ensures clear { IsTrue (W.modelled worktree.now)
         → IsClear (W.lstat_of worktree.now) known.old.check.path
         → IsClear (W.lstat_of worktree.now) known.new.check.path }
@@ -94,6 +100,7 @@ fn known_at<L: Lister>(
 ) -> Result<Option<Metadata>, AllocError>
     ensures known { IsKnownByListings fscache (L.modelled lister.now) (L.listing lister.now) listings.old
         (bstr_bytes path.entry) result }
+    ensures unlisted { fscache ≡ false → IfOk result (λ node. node ≡ None) }
     ensures kept { Keeps (L.modelled lister.now) (L.listing lister.now) listings.old
         → Keeps (L.modelled lister.now) (L.listing lister.now) listings.new }
 {

@@ -17,6 +17,7 @@ pub mod run_rounds;
 mod run_serially;
 pub mod status_by;
 pub mod step;
+mod submodule;
 mod types;
 pub mod workers;
 

@@ -10,6 +10,7 @@ ghost use Rattle.status_call.specs.Records.{record_by};
 ghost use Rattle.status_call.specs.Reporting.{IsFed, IsFedOne, IsPlacedIn};
 ghost use Rattle.status_call.specs.PieceReporting.{IsPieceFed};
 ghost use Rattle.status_call.specs.Runs.{IsFaithfulTo};
+ghost use Rattle.status_call.specs.Views.{SeesWithin};
 
 use crate::index_as_worktree::considered::Considered;
 use crate::index_as_worktree::counts::{Progress, Totals};
@@ -104,10 +105,11 @@ pub(crate) fn compare_piece<D: Decide>(
     requires inside { range.end ≤ length (part_entries considered.now) }
     requires cut { IsCut (part_entries considered.now) range.start }
     requires end { IsCut (part_entries considered.now) range.end }
-    ensures piece { IsPiece (D.query decider.old) considered.now.start
+    ensures piece { IsPiece (D.query decider.old) (D.allows decider.old) considered.now.start
         (part_entries considered.now) range.start range.end result }
     ensures uninterrupted { interrupt.entry ≡ None → IsUninterrupted result.end }
     ensures same { D.query decider.new ≡ D.query decider.old }
+    ensures within { SeesWithin (D.allows decider.new) (D.allows decider.old) }
 {
     let mut findings = Vec::new(alloc);
     let mut totals = Totals::none();

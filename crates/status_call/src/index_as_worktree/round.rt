@@ -4,6 +4,7 @@ ghost use Rattle.std.specs.Prelude.{◌^◌, ◌≤◌, length, ◌≡◌, ◌+�
 ghost use Rattle.status_call.specs.Rounds.{AreBounds, bound, last_bound, AreInRow, IsResult, is_short};
 ghost use Rattle.status_call.specs.Considered.{part_entries};
 ghost use Rattle.status_call.specs.Runs.{IsRoundsReport};
+ghost use Rattle.status_call.specs.Views.{SeesWithin};
 ghost use Rattle.status_call.specs.WorkInOrder.{IsShortage, shortage_of};
 
 use crate::index_as_worktree::considered::Considered;
@@ -41,7 +42,7 @@ where
     D::Submodule: Send,
     requires bounds { AreBounds (part_entries considered.now) bounds.now }
     requires few { length bounds.now ≤ 2 ^ 20 }
-    ensures { IsRoundsReport (D.query decider.now) considered.entry.now workers.entry.now (bound bounds.now 0)
+    ensures { IsRoundsReport (D.query decider.now) (D.allows decider.now) considered.entry.now workers.entry.now (bound bounds.now 0)
         (last_bound bounds.now)
         (V.visits collector.old) result (V.visits collector.new) }
 {
@@ -87,9 +88,10 @@ impl<'a, 'index, D: Decide> Work for Round<'a, 'index, D> {
 
     ghost count = { λ r. length r.bounds.now - 1 };
 
-    ghost fits = { λ r d. D.query d ≡ D.query r.decider.value };
+    ghost fits = { λ r d. (D.query d ≡ D.query r.decider.value)
+        × SeesWithin (D.allows d) (D.allows r.decider.value) };
 
-    ghost gives = { λ r n p. IsResult (D.query r.decider.value) (is_some r.interrupt) r.considered.now.start
+    ghost gives = { λ r n p. IsResult (D.query r.decider.value) (D.allows r.decider.value) (is_some r.interrupt) r.considered.now.start
         (part_entries r.considered.now)
         (bound r.bounds.now n) (bound r.bounds.now (n + 1)) p };
 
@@ -111,14 +113,15 @@ impl<'a, 'index, D: Decide> Work for Round<'a, 'index, D> {
     }
 }
 
-/// Returns this many deciders of the same query, one for each worker.
+/// Returns this many deciders of the same query, one for each worker. None may see more than the first.
 fn deciders_for<D: Decide + Drop>(
     alloc: Global,
     decider: &D,
     count: usize,
 ) -> Result<Vec<D>, AllocError>
     ensures count { IfOk result (λ v. vec_len v ≡ count) }
-    ensures same { IfOk result (λ v. All (λ d. D.query d ≡ D.query decider.now) v.items) }
+    ensures same { IfOk result (λ v. All (λ d. (D.query d ≡ D.query decider.now)
+        × SeesWithin (D.allows d) (D.allows decider.now)) v.items) }
 {
     let mut deciders = Vec::new(alloc);
     for _ in 0..count {
@@ -144,7 +147,7 @@ where
     requires bounds { AreBounds (part_entries considered.now) bounds.now }
     requires few { length bounds.now ≤ 2 ^ 20 }
     ensures pieces { IfOk result
-        (λ v. AreInRow (D.query decider.now) (is_some workers.now.interrupt) considered.now.start
+        (λ v. AreInRow (D.query decider.now) (D.allows decider.now) (is_some workers.now.interrupt) considered.now.start
         (part_entries considered.now) (last_bound bounds.now) (bound bounds.now 0)
         v.items) }
     ensures refused { IfErr result (λ e. IsShortage workers.entry.now.count e) }

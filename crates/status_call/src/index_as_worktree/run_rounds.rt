@@ -42,7 +42,7 @@ where
     D::Content: Send,
     D::Submodule: Send,
     ensures { let c = considered.entry.now in
-        IsRoundsReport (D.query decider.now) c workers.entry.now 0 (length (part_entries c))
+        IsRoundsReport (D.query decider.now) (D.allows decider.now) c workers.entry.now 0 (length (part_entries c))
         (V.visits collector.old) result (V.visits collector.new) }
 {
     let mut totals = Totals::none();

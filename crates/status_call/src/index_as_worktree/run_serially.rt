@@ -28,7 +28,7 @@ pub(crate) fn run_serially<
     collector: &mut V,
 ) -> Result<Progress, Error>
     ensures { let c = considered.entry.now in
-        IsReportedWork (D.query decider.old) c.start (part_entries c) 0 (IsFaithfulTo c)
+        IsReportedWork (D.query decider.old) (D.allows decider.old) c.start (part_entries c) 0 (IsFaithfulTo c)
         (is_some execution.now.interrupt) 1 (length (part_entries c))
         (V.visits collector.old) result (V.visits collector.new) }
 {

@@ -3,7 +3,10 @@
 ghost use Rattle.std.specs.Prelude.{◌≡◌, None, IfOk, false, length};
 ghost use Rattle.status_call.specs.Counts.{outcome_of};
 ghost use Rattle.status_call.specs.StatusOf.{IsFaultOrMemory, IsThreadless, OneThreadSpawnsNone};
+ghost use Rattle.status_call.specs.StatusSeen.{IsStatusSeen};
 ghost use Rattle.status_call.specs.StatusTheorem.{IsStatusReport};
+ghost use Rattle.status_call.specs.Views.{nothing_seen};
+ghost use Rattle.status_index.specs.Entries.{IndexEntry};
 
 use crate::index_as_worktree::considered::Considered;
 use crate::index_as_worktree::counts::Progress;
@@ -24,6 +27,11 @@ fn outcome_of(progress: Progress, considered: &Considered<'_>) -> Outcome
     let range = considered.start..considered.end;
     Outcome::of(progress, considered.entries.len(), range)
 }
+
+/// States that of any entry nothing may have been seen. This does nothing when it runs.
+fn allow_nothing_seen<D: Decide>(_decider: &D)
+    ensures { (e : IndexEntry) → D.allows _decider.now e nothing_seen }
+{}
 
 /// Reports to `collector` how the worktree that `decider` compares differs from `index`, entry by entry in index order,
 /// and returns the counts. If the interrupt flag is seen set, the call ends early, and the outcome reports that.
@@ -47,9 +55,11 @@ where
     D::Content: Send,
     D::Submodule: Send,
     ensures all { IsStatusReport (D.query decider.old) index.now (V.visits collector.old) result (V.visits collector.new) }
+    ensures seen { ∥ IsStatusSeen (D.query decider.old) (D.allows decider.old) index.now (V.visits collector.old) result (V.visits collector.new) ∥₁ }
     ensures uninterrupted { execution.now.interrupt ≡ None → IfOk result (λ o. o.interrupted ≡ false) }
     ensures alone { OneThreadSpawnsNone (D.query decider.old) execution.now.thread_limit result }
 {
+    allow_nothing_seen(decider);
     let considered = Considered::of(index, decider.common_prefix());
     let piece_len = execution.piece_len();
     let workers = Workers::of(rt, execution);
@@ -76,6 +86,7 @@ pub fn status_serially<
     collector: &mut V,
 ) -> Result<Outcome, Error>
     ensures all { IsStatusReport (D.query decider.old) index.now (V.visits collector.old) result (V.visits collector.new) }
+    ensures seen { ∥ IsStatusSeen (D.query decider.old) (D.allows decider.old) index.now (V.visits collector.old) result (V.visits collector.new) ∥₁ }
     ensures uninterrupted { execution.now.interrupt ≡ None → IfOk result (λ o. o.interrupted ≡ false) }
     ensures threadless { IsThreadless (D.query decider.old) result }
     ensures fault { IsFaultOrMemory (D.query decider.old) index.now (V.visits collector.old) result (V.visits collector.new) }

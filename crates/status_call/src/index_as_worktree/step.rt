@@ -3,7 +3,7 @@
 ghost use Rattle.std.specs.Prelude.{◌≡◌, ◌<◌, List, [], ℕ, None, option_map, take, drop, length, not, IsTrue, IfOk};
 ghost use Rattle.std.specs.Option.{option_copied};
 ghost use Rattle.bstr.specs.BStr.{bstr_bytes};
-ghost use Rattle.status_index.specs.Entries.{entry_at};
+ghost use Rattle.status_index.specs.Entries.{IndexEntry, entry_at};
 ghost use Rattle.status_call.specs.Conflicts.{kept_of, run_at};
 ghost use Rattle.status_call.specs.Considered.{is_flagged, part_entries, is_excluded};
 ghost use Rattle.status_compare.specs.Reads.{no_reads, plus_reads};
@@ -11,6 +11,7 @@ ghost use Rattle.status_call.specs.Counts.{conflict_counts, decided_counts, no_t
 ghost use Rattle.status_call.specs.Records.{conflict_status};
 ghost use Rattle.status_call.specs.Steps.{IsFresh, IsStep};
 ghost use Rattle.status_call.specs.Query.{Query};
+ghost use Rattle.status_call.specs.Views.{SeesWithin, View};
 
 use crate::index_as_worktree::considered::Considered;
 use crate::index_as_worktree::counts::{Counts, Totals};
@@ -52,8 +53,9 @@ pub(crate) fn next_step<D: Decide>(
     requires inside { at < length (part_entries considered.now) }
     requires fresh { IsFresh (D.query decider.old) (take at (part_entries considered.now))
         (drop at (part_entries considered.now)) }
-    ensures next { IsStep (D.query decider.old) (part_entries considered.now) at result }
+    ensures next { IsStep (D.query decider.old) (D.allows decider.old) (part_entries considered.now) at result }
     ensures same { D.query decider.new ≡ D.query decider.old }
+    ensures within { SeesWithin (D.allows decider.new) (D.allows decider.old) }
 {
     let entry = considered.entry(at);
     let path = considered.path(at);
@@ -179,17 +181,21 @@ pub struct Decided<T, U> {
     pub reads: Reads,
 }
 
-/// Decides entries, by a query that stays the same.
+/// Decides entries, by a query that stays the same, and by what it sees of the worktree.
 pub trait Decide {
     ghost use Rattle.status_call.specs.Decisions.{IsDecided};
+    ghost use Rattle.status_call.specs.Views.{IsSeenDecided, nothing_seen};
 
     /// The comparer's report of a change.
     type Content: Drop;
     /// The submodule's report of a change.
     type Submodule: Drop;
 
-    /// All that decisions depend on.
+    /// All that decisions depend on, if it is modelled.
     ghost query: { Self → Query Self.Content Self.Submodule };
+
+    /// Which views of an entry are allowed.
+    ghost allows: { Self → IndexEntry → View Self.Content Self.Submodule → Type 0 };
 
     /// Returns the prefix with which the path of each considered entry starts, if the path of any entry does.
     fn common_prefix(&self) -> BStr<'_>
@@ -211,12 +217,18 @@ pub trait Decide {
     ) -> Result<Decided<Self::Content, Self::Submodule>, Error>
         ensures answer { IsTrue (query self.old).modelled
             → IsDecided (query self.old) (entry_at (bstr_bytes path.entry) entry.now) result }
-        ensures same { query self.new ≡ query self.old };
+        ensures seen { ∥ IsSeenDecided (allows self.old) (query self.old) (entry_at (bstr_bytes path.entry) entry.now) result ∥₁ }
+        ensures same { query self.new ≡ query self.old }
+        ensures within { SeesWithin (allows self.new) (allows self.old) };
 
     /// Returns another decider of the same query, for another worker.
     ///
     /// # Errors
     /// Out of memory.
     fn another(&self) -> Result<Self, AllocError>
-        ensures { IfOk result (λ other. query other ≡ query self.now) };
+        ensures same { IfOk result (λ other. query other ≡ query self.now) }
+        ensures within { IfOk result (λ other. SeesWithin (allows other) (allows self.now)) };
+
+    /// It may always be that nothing was seen, since memory ran out.
+    ghost free: { (d : Self) (e : IndexEntry) → allows d e nothing_seen };
 }

@@ -5,3 +5,6 @@ returns-clause-all g c = rw (c.new-objects.ensures) at (c.index_as_worktree.ensu
 
 pub returns-clause-alone : goal.returns-clause-alone
 returns-clause-alone g c = rw (c.new-objects.ensures) at (c.index_as_worktree.ensures.alone)
+
+pub returns-clause-seen : goal.returns-clause-seen
+returns-clause-seen g c = rw (c.new-objects.ensures) at (c.index_as_worktree.ensures.seen)

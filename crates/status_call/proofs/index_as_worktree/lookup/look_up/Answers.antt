@@ -1,9 +1,10 @@
-use Rattle.std.proofs.Common.{not, is_some, sym, ◌∙◌}
+use Rattle.std.proofs.Common.{not, is_some, refl, sym, ◌∙◌, true, Some, None, Ok, Err}
 use Rattle.bstr.specs.BStr.{bstr_bytes}
 use Rattle.status_base.specs.LinkCheck.{link_check}
 use Rattle.status_base.specs.ListedNodes.{known_node}
 use Rattle.status_call.specs.Status.{cached_or}
 use Rattle.status_call.proofs.EntryCases.{site_known, site_live, live_answer}
+use Rattle.status_call.proofs.SightCases.{seen_accepted, seen_live}
 use Rattle.status_call.proofs.index_as_worktree.lookup.look_up.Goals as goal
 
 pub returns-in-Err-clause-look : goal.returns-in-Err-clause-look
@@ -29,4 +30,31 @@ returns-in-Ok-clause-look g c =
     let known = known_node c.args.fscache (g.L.Lister.listing c.args.lister.now) path in
     λ reported listings clear kept.
     site_live (link_check lstat path) known (lstat path) c.in-Ok.node c.look_at-in-Ok.result (c.in_default.ensures.answer reported clear).0
-    (sym (c.in_ok-node.ensures.known listings kept) ∙ c.in_default-2.is) (live_answer (lstat path) c.in-Ok.node (c.in-Ok.ensures reported)) c.look_at-in-Ok.ensures
+    (sym (c.in_ok-node.ensures.known listings kept) ∙ c.in_default-2.is) (live_answer (lstat path) c.in-Ok.node (c.in-Ok.ensures.answer reported)) c.look_at-in-Ok.ensures
+
+pub returns-in-Err-clause-seen : goal.returns-in-Err-clause-seen
+returns-in-Err-clause-seen g c = λ opened.
+    let check = c.in-Err.ensures.seen opened in
+    record {
+      lstat = check.lstat;
+      listed = None;
+      allowed = check.allowed;
+      unlisted = λ _. refl;
+      look = c.look_refused.ensures (link_check check.lstat (bstr_bytes c.args.path)) (check.lstat (bstr_bytes c.args.path)) true check.checked;
+    }
+
+pub returns-in-Some-clause-seen : goal.returns-in-Some-clause-seen
+returns-in-Some-clause-seen g c = λ opened.
+    let check = c.in_default.ensures.seen opened in
+    seen_accepted (g.W.Worktree.may_stat c.args.worktree.now) c.args.fscache (bstr_bytes c.args.path) check.lstat (Some c.in-Some.node) _ check.allowed
+    (λ off. sym c.in-Some.is ∙ c.in_ok-node.ensures.unlisted off) check.checked c.look_at.ensures
+
+pub returns-in-Ok-clause-seen : goal.returns-in-Ok-clause-seen
+returns-in-Ok-clause-seen g c = λ opened.
+    let check = c.in_default.ensures.seen opened in
+    seen_live (g.W.Worktree.may_stat c.args.worktree.now) c.args.fscache (bstr_bytes c.args.path) (Ok c.in-Ok.node) check.lstat _ c.in-Ok.ensures.seen check.allowed check.checked c.look_at-in-Ok.ensures
+
+pub returns-in-Err-lstat-clause-seen : goal.returns-in-Err-lstat-clause-seen
+returns-in-Err-lstat-clause-seen g c = λ opened.
+    let check = c.in_default.ensures.seen opened in
+    seen_live (g.W.Worktree.may_stat c.args.worktree.now) c.args.fscache (bstr_bytes c.args.path) (Err c.in-Err-lstat.fault) check.lstat _ c.in-Err-lstat.ensures.seen check.allowed check.checked c.look_at_fault.ensures

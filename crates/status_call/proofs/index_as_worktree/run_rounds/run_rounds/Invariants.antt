@@ -9,7 +9,7 @@ abbrev pub invariant-loop-at : goal.invariant-loop-at
 invariant-loop-at g l =
     let visits = g.V.VisitEntry.visits in
     record {
-      way : IsWorkSoFar (g.D.Decide.query l.decider) l.considered.start (part_entries l.considered) 0 (IsFaithfulTo l.considered) l.at l.totals (visits l.initial.collector) (visits l.collector);
+      way : IsWorkSoFar (g.D.Decide.query l.decider) (g.D.Decide.allows l.decider) l.considered.start (part_entries l.considered) 0 (IsFaithfulTo l.considered) l.at l.totals (visits l.initial.collector) (visits l.collector);
       cut : IsCut (part_entries l.considered) l.at;
       inside : l.at ≤ length (part_entries l.considered);
     }

@@ -2,6 +2,7 @@ use Rattle.std.proofs.Common.{◌≡◌, ◌≤◌, ◌-◌, length}
 use Rattle.status_call.specs.Pieces.{IsCut}
 use Rattle.status_call.specs.Considered.{part_entries}
 use Rattle.status_call.specs.Runs.{IsFaithfulTo}
+use Rattle.status_call.specs.Views.{SeesWithin}
 use Rattle.status_call.specs.WorkInOrder.{IsWorkSoFar}
 use Rattle.status_call.proofs.index_as_worktree.run_serially.run_serially.Given as goal
 
@@ -9,8 +10,9 @@ abbrev pub invariant-loop-at : goal.invariant-loop-at
 invariant-loop-at g l =
     let visits = g.V.VisitEntry.visits in
     record {
-      way : IsWorkSoFar (g.D.Decide.query l.initial.decider) l.considered.start (part_entries l.considered) 0 (IsFaithfulTo l.considered) l.at l.totals (visits l.initial.collector) (visits l.collector);
+      way : IsWorkSoFar (g.D.Decide.query l.initial.decider) (g.D.Decide.allows l.initial.decider) l.considered.start (part_entries l.considered) 0 (IsFaithfulTo l.considered) l.at l.totals (visits l.initial.collector) (visits l.collector);
       same : g.D.Decide.query l.decider ≡ g.D.Decide.query l.initial.decider;
+      within : SeesWithin (g.D.Decide.allows l.decider) (g.D.Decide.allows l.initial.decider);
       cut : IsCut (part_entries l.considered) l.at;
       inside : l.at ≤ length (part_entries l.considered);
     }

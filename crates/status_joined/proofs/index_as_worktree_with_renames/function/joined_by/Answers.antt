@@ -10,7 +10,7 @@ returns-in_default-identifier_of g c = quietly _ _ _ _ _ _ _ _ _ _ tt
 
 pub returns-in-Err : goal.returns-in-Err
 returns-in-Err g c =
-    let decider = rw (c.of-settings.ensures, c.tracked_options.ensures) at c.new-decider.ensures in
+    let decider = rw (c.of-settings.ensures, c.tracked_options.ensures) at c.new-decider.ensures.query in
     let walk = c.in-Ok.ensures (index_of c.args.call.now.index.now) in
     let ids = c.in-Ok-identifier_of.ensures in
     joined_at _ _ _ _ _ _ _ _ _ decider _ walk _ ids _ _ _
@@ -18,7 +18,7 @@ returns-in-Err g c =
 
 pub returns-in-Ok-report_list : goal.returns-in-Ok-report_list
 returns-in-Ok-report_list g c =
-    let decider = rw (c.of-settings.ensures, c.tracked_options.ensures) at c.new-decider.ensures in
+    let decider = rw (c.of-settings.ensures, c.tracked_options.ensures) at c.new-decider.ensures.query in
     let walk = c.in-Ok.ensures (index_of c.args.call.now.index.now) in
     let ids = c.in-Ok-identifier_of.ensures in
     joined_at _ _ _ _ _ _ _ _ _ decider _ walk _ ids _ _ _
@@ -26,7 +26,7 @@ returns-in-Ok-report_list g c =
 
 pub returns : goal.returns
 returns g c =
-    let decider = rw (c.of-settings.ensures, c.tracked_options.ensures) at c.new-decider.ensures in
+    let decider = rw (c.of-settings.ensures, c.tracked_options.ensures) at c.new-decider.ensures.query in
     let walk = c.in-Ok.ensures (index_of c.args.call.now.index.now) in
     let ids = c.in-Ok-identifier_of.ensures in
     joined_at _ _ _ _ _ _ _ _ _ decider _ walk _ ids _ _ _

@@ -1,16 +1,20 @@
-use Rattle.std.proofs.Common.{ap, rules}
+use Rattle.std.proofs.Common.{ap, inl, refl, rules, Some, Ok, Err}
+use Rattle.std.proofs.lemmas.Result.{err_from_is_err_and}
 use Rattle.bstr.specs.BStr.{bstr_bytes}
 use Rattle.status_index.specs.Entries.{entry_at}
-use Rattle.status_call.specs.EntryParts.{counted_of}
+use Rattle.status_call.specs.EntryParts.{candidate_entry, counted_of}
 use Rattle.status_call.specs.Modelled.{all_modelled, are_modelled}
 use Rattle.status_call.specs.Query.{Query}
 use Rattle.status_call.specs.declared.index_as_worktree.inputs.Settings.{Settings}
 use Rattle.status_base.specs.ListedNodes.{known_node}
+use Rattle.status_call.specs.EntrySights.{viewed}
+use Rattle.status_call.specs.Views.{View, nothing_seen}
 use Rattle.status_call.proofs.EntryCases.{compared_of_case}
+use Rattle.status_call.proofs.SightCases.{failed_of_case, unread_of_case}
 use Rattle.status_call.proofs.index_as_worktree.decider.Decider.decide_content.Goals as goal
 
 pub invariant_of-self : goal.invariant_of-self
-invariant_of-self g c = record { clear = rw c.compare_node.ensures.only c.args.self.now.clear; kept = rw c.compare_node.ensures.only c.args.self.now.kept }
+invariant_of-self g c = record { clear = rw c.compare_node.ensures.only c.args.self.now.clear; opened = rw c.compare_node.ensures.only c.args.self.now.opened; kept = rw c.compare_node.ensures.only c.args.self.now.kept }
 
 pub returns-in_err-comparison-clause-same : goal.returns-in_err-comparison-clause-same
 returns-in_err-comparison-clause-same g c =
@@ -36,10 +40,10 @@ returns-clause-decided g c =
       symlink = s.fs.symlink;
       executable_bit = s.fs.executable_bit;
       timestamp = s.timestamp;
-      lstat = g.W.Worktree.lstat_of i.worktree.now;
+      lstat = λ _. g.W.Worktree.lstat_of i.worktree.now;
       opened = g.W.Worktree.open_of i.worktree.now;
       linked = g.W.Worktree.target_of i.worktree.now;
-      cached = known_node s.fscache (g.L.Lister.listing i.lister);
+      cached = λ e. known_node s.fscache (g.L.Lister.listing i.lister) e.path;
       prefix = g.P.Pathspec.prefix i.pathspec;
       included = g.P.Pathspec.included i.pathspec;
       conversion = λ content path. g.T.ToGit.conversion i.filter content path;
@@ -54,3 +58,30 @@ returns-clause-decided g c =
     let answer = c.in_ok-comparison.ensures.compared modelled in
     compared_of_case q e n c.args.stat c.args.executable_bit_changed c.is_trusted-trusted.result c.is_racy-racy.result c.needs_comparison-compares.result c.in_ok-comparison.comparison.change (counted_of q e n) c.decision_of.result
     c.is_trusted-trusted.ensures c.is_racy-racy.ensures c.needs_comparison-compares.ensures c.if-not-compares.false answer.0 (c.decision_of.ensures e.path (counted_of q e n) answer.1)
+
+pub returns-then-not-compares-clause-seen : goal.returns-then-not-compares-clause-seen
+returns-then-not-compares-clause-seen g c = record {
+  view = nothing_seen;
+  decided = λ _. unread_of_case (viewed c.args.self.now.settings nothing_seen) (candidate_entry c.args.candidate.now) c.args.candidate.now.node c.args.stat c.args.executable_bit_changed c.is_trusted-trusted.result c.is_racy-racy.result c.needs_comparison-compares.result _ _
+      c.is_trusted-trusted.ensures c.is_racy-racy.ensures c.needs_comparison-compares.ensures c.if-not-compares.true c.unread.ensures;
+}
+
+pub returns-in_err-comparison-clause-seen : goal.returns-in_err-comparison-clause-seen
+returns-in_err-comparison-clause-seen g c =
+    let failed = err_from_is_err_and c.from_residual.result c.from_residual.ensures.1 in
+    rw (failed.1, failed.2) (record {
+      view = record nothing_seen { compared = Err c.in_err-comparison.field-0.0 };
+      decided = λ _. inl (failed_of_case (viewed c.args.self.now.settings (record nothing_seen { compared = Err c.in_err-comparison.field-0.0 })) (candidate_entry c.args.candidate.now) c.args.candidate.now.node c.args.stat c.args.executable_bit_changed c.is_trusted-trusted.result c.is_racy-racy.result c.needs_comparison-compares.result c.in_err-comparison.field-0.0
+          c.is_trusted-trusted.ensures c.is_racy-racy.ensures c.needs_comparison-compares.ensures c.if-not-compares.false refl);
+    })
+
+pub returns-clause-seen : goal.returns-clause-seen
+returns-clause-seen g c =
+    let e = candidate_entry c.args.candidate.now in
+    let said = c.in_ok-comparison.comparison in
+    let view : View g.row.C-Output.Denot g.row.S-Output.Denot = record nothing_seen { compared = Ok said.change; reads = said.reads } in
+    record {
+      view = view;
+      decided = λ _. compared_of_case (viewed c.args.self.now.settings view) e c.args.candidate.now.node c.args.stat c.args.executable_bit_changed c.is_trusted-trusted.result c.is_racy-racy.result c.needs_comparison-compares.result said.change (Some said.reads) c.decision_of.result
+          c.is_trusted-trusted.ensures c.is_racy-racy.ensures c.needs_comparison-compares.ensures c.if-not-compares.false refl (c.decision_of.ensures e.path (Some said.reads) refl);
+    }

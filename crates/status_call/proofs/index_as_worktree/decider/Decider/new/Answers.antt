@@ -1,4 +1,8 @@
-use Rattle.std.proofs.Common.{rules, sym, subst}
+use Rattle.std.proofs.Common.{rules, sym, ap, subst}
+use Rattle.std.proofs.lemmas.Grind.{merely}
+use Rattle.status_base.specs.CheckState.{CheckState}
+use Rattle.status_base.specs.Sights.{IsOpen}
+use Rattle.status_base.proofs.SightLemmas.{open_nothing}
 use Rattle.status_base.specs.ListingTable.{HasListedNames}
 use Rattle.status_base.proofs.ListingTables.{empty-HasListedNames}
 use Rattle.status_call.proofs.index_as_worktree.decider.Decider.new.Goals as goal
@@ -6,4 +10,4 @@ use Rattle.status_call.proofs.index_as_worktree.decider.Decider.new.Goals as goa
 pub invariant_of-result : goal.invariant_of-result
 invariant_of-result g c =
     let listing = g.L.Lister.listing c.args.inputs.lister in
-    record { clear = search rules; kept = λ modelled. subst (HasListedNames listing) (sym c.new-listings.ensures) (empty-HasListedNames listing) }
+    record { clear = search rules; opened = merely (subst (IsOpen (g.W.Worktree.may_stat c.args.inputs.worktree.now)) (sym (ap (λ (s : CheckState). s.path) c.new-check.ensures)) (open_nothing _ (g.met.W.Worktree.stat_may_fail c.args.inputs.worktree.now))); kept = λ modelled. subst (HasListedNames listing) (sym c.new-listings.ensures) (empty-HasListedNames listing) }

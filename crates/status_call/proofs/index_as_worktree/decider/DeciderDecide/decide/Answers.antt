@@ -1,14 +1,21 @@
-use Rattle.std.proofs.Common.{sym, refl, Ok, Err}
+use Rattle.std.proofs.Common.{sym, refl, ap, ◌∙◌, Some, None, Ok, Err}
+use Rattle.std.proofs.Math.Logic.{∥∥₁_map}
 use Rattle.std.proofs.lemmas.Result.{err_from_is_err_and}
 use Rattle.bstr.specs.BStr.{bstr_bytes}
 use Rattle.status_index.specs.Entries.{entry_at}
 use Rattle.status_call.specs.Counts.{calls_lstat}
-use Rattle.status_call.specs.EntryParts.{counted_of}
+use Rattle.status_compare.specs.Reads.{no_reads}
+use Rattle.status_call.specs.declared.index_as_worktree.lookup.AtPath.TheVariants as presences
+use Rattle.status_call.specs.declared.index_as_worktree.types.EntryStatus.TheVariants as statuses
+use Rattle.status_call.specs.declared.index_as_worktree.types.Change.TheVariants as changes
+use Rattle.status_call.specs.EntryParts.{counted_of, found_presence}
+use Rattle.status_call.specs.EntrySights.{viewed}
 use Rattle.status_call.specs.Modelled.{all_modelled, are_modelled}
 use Rattle.status_call.specs.Query.{Query}
-use Rattle.status_call.specs.Status.{case_of_found, found, present}
+use Rattle.status_call.specs.Status.{case_of_found, directory, directory_case, found, gone, present}
 use Rattle.status_base.specs.ListedNodes.{known_node}
-use Rattle.status_call.proofs.EntryCases.{counted_look, is_decided, presence_node, reported_counts}
+use Rattle.status_call.proofs.SightCases.{seen_found, seen_refused, unread_case}
+use Rattle.status_call.proofs.EntryCases.{all_submodule, counted_look, is_decided, presence_node, reported_counts}
 use Rattle.status_call.proofs.index_as_worktree.decider.DeciderDecide.decide.Goals as goal
 
 pub returns-in_ok-decided-in-Node-clause-answer : goal.returns-in_ok-decided-in-Node-clause-answer
@@ -22,10 +29,10 @@ returns-in_ok-decided-in-Node-clause-answer g c =
       symlink = s.fs.symlink;
       executable_bit = s.fs.executable_bit;
       timestamp = s.timestamp;
-      lstat = g.W.Worktree.lstat_of i.worktree.now;
+      lstat = λ _. g.W.Worktree.lstat_of i.worktree.now;
       opened = g.W.Worktree.open_of i.worktree.now;
       linked = g.W.Worktree.target_of i.worktree.now;
-      cached = known_node s.fscache (g.L.Lister.listing i.lister);
+      cached = λ e. known_node s.fscache (g.L.Lister.listing i.lister) e.path;
       prefix = g.P.Pathspec.prefix i.pathspec;
       included = g.P.Pathspec.included i.pathspec;
       conversion = λ content path. g.T.ToGit.conversion i.filter content path;
@@ -54,10 +61,10 @@ returns-in_err-decided-in-Node-clause-answer g c =
       symlink = s.fs.symlink;
       executable_bit = s.fs.executable_bit;
       timestamp = s.timestamp;
-      lstat = g.W.Worktree.lstat_of i.worktree.now;
+      lstat = λ _. g.W.Worktree.lstat_of i.worktree.now;
       opened = g.W.Worktree.open_of i.worktree.now;
       linked = g.W.Worktree.target_of i.worktree.now;
-      cached = known_node s.fscache (g.L.Lister.listing i.lister);
+      cached = λ e. known_node s.fscache (g.L.Lister.listing i.lister) e.path;
       prefix = g.P.Pathspec.prefix i.pathspec;
       included = g.P.Pathspec.included i.pathspec;
       conversion = λ content path. g.T.ToGit.conversion i.filter content path;
@@ -81,3 +88,121 @@ returns-in_err-decided-in-Node-clause-same g c = rw (c.look.ensures.inputs, c.lo
 
 pub returns-in_ok-decided-in-Node-clause-same : goal.returns-in_ok-decided-in-Node-clause-same
 returns-in_ok-decided-in-Node-clause-same g c = rw (c.look.ensures.inputs, c.look.ensures.settings) at c.decide_node.ensures.same
+
+pub returns-in_ok-decided-in-Directory-clause-answer : goal.returns-in_ok-decided-in-Directory-clause-answer
+returns-in_ok-decided-in-Directory-clause-answer g c =
+    let i = c.args.self.now.inputs in
+    let s = c.args.self.now.settings in
+    let q : Query g.row.C-Output.Denot g.row.S-Output.Denot = record {
+      modelled = all_modelled (g.W.Worktree.modelled i.worktree.now) (g.O.Find.modelled i.objects) (g.S.SubmoduleStatus.modelled i.submodule)
+          (are_modelled s.fscache (g.L.Lister.modelled i.lister));
+      stat_options = s.stat;
+      symlink = s.fs.symlink;
+      executable_bit = s.fs.executable_bit;
+      timestamp = s.timestamp;
+      lstat = λ _. g.W.Worktree.lstat_of i.worktree.now;
+      opened = g.W.Worktree.open_of i.worktree.now;
+      linked = g.W.Worktree.target_of i.worktree.now;
+      cached = λ e. known_node s.fscache (g.L.Lister.listing i.lister) e.path;
+      prefix = g.P.Pathspec.prefix i.pathspec;
+      included = g.P.Pathspec.included i.pathspec;
+      conversion = λ content path. g.T.ToGit.conversion i.filter content path;
+      blob = g.O.Find.found i.objects;
+      submodule = g.S.SubmoduleStatus.status_of i.submodule;
+      compared = g.C.CompareBlobs.answer i.compare;
+      counted = g.C.CompareBlobs.counts_after i.compare;
+    } in
+    let e = entry_at (bstr_bytes c.args.path) c.args.entry.now in
+    let look = c.in_ok-presence.field-0 in
+    let decided = rw c.look.ensures.inputs at c.in_ok-decided-in-Directory.ensures.decided in
+    λ modelled.
+    let found_directory = c.in_ok-presence.ensures.look modelled in
+    is_decided q e directory look.lstat_called (Some no_reads) (Ok (record c.in_ok-decided-in-Directory.decided { lstat_called = look.lstat_called })) (found_directory.0 ∙ ap found_presence c.in-Directory.is) (sym found_directory.1) (λ _. refl)
+    (counted_look e.path (case_of_found q e directory) look.lstat_called (Some no_reads) c.in_ok-decided-in-Directory.decided (decided (all_submodule _ _ _ _ modelled)))
+
+pub returns-in_err-decided-in-Directory-clause-answer : goal.returns-in_err-decided-in-Directory-clause-answer
+returns-in_err-decided-in-Directory-clause-answer g c =
+    let i = c.args.self.now.inputs in
+    let s = c.args.self.now.settings in
+    let q : Query g.row.C-Output.Denot g.row.S-Output.Denot = record {
+      modelled = all_modelled (g.W.Worktree.modelled i.worktree.now) (g.O.Find.modelled i.objects) (g.S.SubmoduleStatus.modelled i.submodule)
+          (are_modelled s.fscache (g.L.Lister.modelled i.lister));
+      stat_options = s.stat;
+      symlink = s.fs.symlink;
+      executable_bit = s.fs.executable_bit;
+      timestamp = s.timestamp;
+      lstat = λ _. g.W.Worktree.lstat_of i.worktree.now;
+      opened = g.W.Worktree.open_of i.worktree.now;
+      linked = g.W.Worktree.target_of i.worktree.now;
+      cached = λ e. known_node s.fscache (g.L.Lister.listing i.lister) e.path;
+      prefix = g.P.Pathspec.prefix i.pathspec;
+      included = g.P.Pathspec.included i.pathspec;
+      conversion = λ content path. g.T.ToGit.conversion i.filter content path;
+      blob = g.O.Find.found i.objects;
+      submodule = g.S.SubmoduleStatus.status_of i.submodule;
+      compared = g.C.CompareBlobs.answer i.compare;
+      counted = g.C.CompareBlobs.counts_after i.compare;
+    } in
+    let e = entry_at (bstr_bytes c.args.path) c.args.entry.now in
+    let look = c.in_ok-presence.field-0 in
+    let decided = rw c.look.ensures.inputs at c.in_err-decided-in-Directory.ensures.decided in
+    λ modelled.
+    let found_directory = c.in_ok-presence.ensures.look modelled in
+    let specified = is_decided q e directory (calls_lstat q e) (Some no_reads) (Err c.in_err-decided-in-Directory.field-0.0) (found_directory.0 ∙ ap found_presence c.in-Directory.is) refl (λ _. refl) (decided (all_submodule _ _ _ _ modelled)) in
+    let p = err_from_is_err_and c.from_residual-in_err-decided-in-Directory.result c.from_residual-in_err-decided-in-Directory.ensures.1 in
+    rw (p.1, p.2) specified
+
+pub returns-in_err-decided-in-Directory-clause-same : goal.returns-in_err-decided-in-Directory-clause-same
+returns-in_err-decided-in-Directory-clause-same g c = rw (c.look.ensures.inputs, c.look.ensures.settings) at c.decide_directory.ensures.same
+
+pub returns-in_ok-decided-in-Directory-clause-same : goal.returns-in_ok-decided-in-Directory-clause-same
+returns-in_ok-decided-in-Directory-clause-same g c = rw (c.look.ensures.inputs, c.look.ensures.settings) at c.decide_directory.ensures.same
+
+-- By what was seen.
+pub returns-in_err-presence-clause-seen : goal.returns-in_err-presence-clause-seen
+returns-in_err-presence-clause-seen g c =
+    let p = err_from_is_err_and c.from_residual.result c.from_residual.ensures.1 in
+    rw (p.1, p.2) (∥∥₁_map c.in_err-presence.ensures.seen (seen_refused _ _ _ _ _))
+
+pub returns-in-Nothing-clause-seen : goal.returns-in-Nothing-clause-seen
+returns-in-Nothing-clause-seen g c =
+    let look = c.in_ok-presence.field-0 in
+    ∥∥₁_map c.in_ok-presence.ensures.seen (λ s.
+    seen_found _ _ _ _ look presences.Nothing c.in-Nothing.is s (Ok None) (Ok None) no_reads (Ok c.unread.result)
+    (unread_case (bstr_bytes c.args.path) gone (Some (statuses.Change changes.Removed)) look.lstat_called no_reads c.unread.result c.unread.ensures refl refl refl))
+
+pub returns-in_ok-decided-in-Directory-clause-seen : goal.returns-in_ok-decided-in-Directory-clause-seen
+returns-in_ok-decided-in-Directory-clause-seen g c =
+    let look = c.in_ok-presence.field-0 in
+    let e = entry_at (bstr_bytes c.args.path) c.args.entry.now in
+    let said = c.in_ok-decided-in-Directory.ensures.seen in
+    ∥∥₁_map c.in_ok-presence.ensures.seen (λ s.
+    seen_found _ _ _ _ look presences.Directory c.in-Directory.is s said.said (Ok None) no_reads (Ok (record c.in_ok-decided-in-Directory.decided { lstat_called = look.lstat_called }))
+    (counted_look e.path (directory_case e said.said) look.lstat_called (Some no_reads) c.in_ok-decided-in-Directory.decided said.decided))
+
+pub returns-in_err-decided-in-Directory-clause-seen : goal.returns-in_err-decided-in-Directory-clause-seen
+returns-in_err-decided-in-Directory-clause-seen g c =
+    let look = c.in_ok-presence.field-0 in
+    let said = c.in_err-decided-in-Directory.ensures.seen in
+    let p = err_from_is_err_and c.from_residual-in_err-decided-in-Directory.result c.from_residual-in_err-decided-in-Directory.ensures.1 in
+    rw (p.1, p.2) (∥∥₁_map c.in_ok-presence.ensures.seen (λ s.
+    seen_found _ _ _ _ look presences.Directory c.in-Directory.is s said.said (Ok None) no_reads (Err c.in_err-decided-in-Directory.field-0.0) said.decided))
+
+pub returns-in_ok-decided-in-Node-clause-seen : goal.returns-in_ok-decided-in-Node-clause-seen
+returns-in_ok-decided-in-Node-clause-seen g c =
+    let look = c.in_ok-presence.field-0 in
+    let e = entry_at (bstr_bytes c.args.path) c.args.entry.now in
+    let n = c.in-Node.node in
+    let said = rw (c.look.ensures.settings) at c.in_ok-decided-in-Node.ensures.seen in
+    ∥∥₁_map c.in_ok-presence.ensures.seen (λ s.
+    seen_found _ _ _ _ look (presences.Node n) c.in-Node.is s (Ok None) said.view.compared said.view.reads (Ok (record c.in_ok-decided-in-Node.decided { lstat_called = look.lstat_called }))
+    (counted_look e.path (case_of_found (viewed c.args.self.now.settings said.view) e (present n)) look.lstat_called (Some said.view.reads) c.in_ok-decided-in-Node.decided (said.decided refl)))
+
+pub returns-in_err-decided-in-Node-clause-seen : goal.returns-in_err-decided-in-Node-clause-seen
+returns-in_err-decided-in-Node-clause-seen g c =
+    let look = c.in_ok-presence.field-0 in
+    let n = c.in-Node.node in
+    let said = rw (c.look.ensures.settings) at c.in_err-decided-in-Node.ensures.seen in
+    let p = err_from_is_err_and c.from_residual-in_err-decided-in-Node.result c.from_residual-in_err-decided-in-Node.ensures.1 in
+    rw (p.1, p.2) (∥∥₁_map c.in_ok-presence.ensures.seen (λ s.
+    seen_found _ _ _ _ look (presences.Node n) c.in-Node.is s (Ok None) said.view.compared said.view.reads (Err c.in_err-decided-in-Node.field-0.0) (said.decided refl)))

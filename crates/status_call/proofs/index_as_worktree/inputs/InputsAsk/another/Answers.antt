@@ -2,8 +2,8 @@ use Rattle.status_base.specs.ListedNodes.{known_node}
 use Rattle.status_call.specs.Modelled.{all_modelled, are_modelled}
 use Rattle.status_call.proofs.index_as_worktree.inputs.InputsAsk.another.Goals as goal
 
-pub returns : goal.returns
-returns g c =
+pub returns-clause-same : goal.returns-clause-same
+returns-clause-same g c =
     let i = c.args.self.now in
     let compare = c.in_ok-clone.ensures.cases in
     let submodule = c.in_ok-clone-2.ensures.cases in
@@ -18,10 +18,10 @@ returns g c =
       symlink = settings.fs.symlink;
       executable_bit = settings.fs.executable_bit;
       timestamp = settings.timestamp;
-      lstat = g.W.Worktree.lstat_of i.worktree.now;
+      lstat = λ _. g.W.Worktree.lstat_of i.worktree.now;
       opened = g.W.Worktree.open_of i.worktree.now;
       linked = g.W.Worktree.target_of i.worktree.now;
-      cached = known_node settings.fscache (g.met.L.Lister.clone_keeps_listing i.lister c.in_ok-clone-6.field-0 lister k);
+      cached = λ e. known_node settings.fscache (g.met.L.Lister.clone_keeps_listing i.lister c.in_ok-clone-6.field-0 lister k) e.path;
       prefix = g.met.P.Pathspec.clone_keeps_prefix i.pathspec c.in_ok-clone-4.field-0 pathspec k;
       included = g.met.P.Pathspec.clone_keeps_included i.pathspec c.in_ok-clone-4.field-0 pathspec k;
       conversion = λ content path. g.met.T.ToGit.clone_keeps_conversion i.filter c.in_ok-clone-5.field-0 filter k content path;
