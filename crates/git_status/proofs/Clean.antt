@@ -4,22 +4,23 @@ use Rattle.std.specs.Prelude.{slice_get}
 use Rattle.std.specs.List.{list_any, cons_option}
 use Rattle.std.proofs.lemmas.List.Elements.{All-nil, All-cons}
 use Rattle.std.proofs.lemmas.List.Folds.{list_any-append}
-use Rattle.git_attributes.specs.Files.{File}
-use Rattle.git_attributes.specs.declared.line_ends.LineEnds.{LineEnds}
 use Rattle.git_status.specs.Lines.{differs}
 use Rattle.status_call.specs.Inputs.{settings}
 use Rattle.status_call.specs.Query.{Query}
 use Rattle.status_call.specs.Records.{fault_by, faults_in, record_by, records_in, verdict}
 use Rattle.status_call.specs.StatusTheorem.{IsComplete, IsStatusReport, considered_entries, start_of}
 use Rattle.status_call.specs.Visits.{Visit, finding_of}
-use Rattle.status_call.specs.declared.index_as_worktree.inputs.Settings.{Settings as StatusSettings}
 use Rattle.status_call.specs.declared.index_as_worktree.types.EntryStatus.{EntryStatus}
 use Rattle.status_call.specs.declared.index_as_worktree.types.Finding.{Finding}
 use Rattle.status_call.specs.declared.index_as_worktree.types.Outcome.{Outcome}
 use Rattle.status_compare.specs.declared.error.Error.{Error}
 use Rattle.status_index.specs.Entries.{IndexEntry}
 use Rattle.status_index.specs.declared.state.State.{State}
-use Rattle.git_status.specs.Runs.{Asking, CleanLaw, HasNoDifference, IsCommandEnd, IsReport, IsCommandRun, IsStatusRun, is_difference}
+use Rattle.std.proofs.Math.Logic.{∥∥₁_map}
+use Rattle.status_base.specs.Sights.{MayStat}
+use Rattle.status_call.specs.Views.{as_seen}
+use Rattle.git_status.specs.declared.lines.LineStyle.{LineStyle}
+use Rattle.git_status.specs.Runs.{Asking, CleanLaw, HasNoDifference, IsCommandEnd, IsExit, IsReport, IsCommandRun, IsSeenClean, IsStatusRun, NoneDiffers, is_difference}
 use Rattle.git_status.specs.declared.asked.Settings.{Settings}
 use Rattle.git_status.specs.declared.answer.Report.{Report}
 
@@ -81,16 +82,30 @@ module _ {T U : Type 0} where
       let whole = complete (not_early r.outcome.interrupted r.dirty report.early clean) in
       complete_clean q index visits r.outcome (sym report.dirty ∙ clean) (subst (λ vs. IsComplete q index (map finding_of vs) r.outcome) (sym met.grew) whole)
 
-  run_clean : (q : Query T U) (index : State) (s : Settings) (old : Option (List ℕ)) (r : Report) (new : Option (List ℕ)) → IsTrue q.modelled → IsStatusRun q index s old (Ok r) new → r.dirty ≡ false
-      → All (λ e. HasNoDifference (verdict q (considered_entries q index) e)) (considered_entries q index)
-  run_clean q index s old r new modelled run clean = met_clean q index run.visits run.answer r modelled run.computed.met (reported run.visits run.answer run.ended) clean
-    where
-      reported : (visits : List (Visit T U)) (answer : Result Outcome Error) → IsCommandEnd s.lines visits answer old (Ok r) new → IsReport visits answer r
-      reported visits answer (inl found) = found.1
-      reported visits answer (inr failed) = absurd failed
+  reported : (lines : Option LineStyle) (visits : List (Visit T U)) (answer : Result Outcome Error) (old : Option (List ℕ)) (r : Report) (new : Option (List ℕ)) → IsCommandEnd lines visits answer old (Ok r) new → IsReport visits answer r
+  reported lines visits answer old r new (inl found) = found.1
+  reported lines visits answer old r new (inr failed) = absurd failed
+
+  run_clean : (q : Query T U) (may : MayStat) (index : State) (s : Settings) (old : Option (List ℕ)) (r : Report) (new : Option (List ℕ)) → IsTrue q.modelled → IsStatusRun q may index s old (Ok r) new → r.dirty ≡ false
+      → NoneDiffers q index
+  run_clean q may index s old r new modelled run clean =
+      met_clean q index run.visits run.answer r modelled run.computed.met (reported s.lines run.visits run.answer old r new run.ended) clean
+
+  -- by what was seen of each entry
+  pub clean_seen : (a : Asking T U) (bytes : List ℕ) (old new : Option (List ℕ)) → IsExit a bytes false old new → IsSeenClean a bytes
+  unfolding IsCommandRun
+  clean_seen a bytes old new exit =
+      let read = exit.2.0 in
+      let run = exit.2.1 in
+      let q = a.query read.converting.filter (settings a.settings.options read.index) in
+      let report = reported a.settings.lines run.visits run.answer old exit.0 new run.ended in (
+        read,
+        ∥∥₁_map run.computed.seen (λ seen.
+            (record { views = seen.views; allowed = seen.allowed }, met_clean (as_seen q seen.views) read.index run.visits run.answer exit.0 refl seen.report report exit.1)),
+      )
 
   pub clean_law : (a : Asking T U) (bytes : List ℕ) → CleanLaw a bytes
   unfolding IsCommandRun
   clean_law a bytes modelled old new exit =
       let read = exit.2.0 in let asked = settings a.settings.options read.index in
-      (read, run_clean (a.query read.converting.filter asked) read.index a.settings old exit.0 new (modelled read.converting.filter asked) exit.2.1 exit.1)
+      (read, run_clean (a.query read.converting.filter asked) a.may_stat read.index a.settings old exit.0 new (modelled read.converting.filter asked) exit.2.1 exit.1)

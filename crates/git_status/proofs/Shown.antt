@@ -1,25 +1,25 @@
 -- The lines that are printed are those of the entries that differ.
-use Rattle.std.proofs.Common.{◌≡◌, ◌∙◌, ℕ, ◌++◌, List, [], ◌∷◌, map, All, Option, Some, None, Result, Ok, IfOk, inl, inr, refl, sym, ap, subst, IsTrue}
-use Rattle.std.specs.Prelude.{is_some, true, false, slice_get, option_map, Bool}
+use Rattle.std.proofs.Common.{◌≡◌, ◌∙◌, ℕ, ◌++◌, List, [], ◌∷◌, map, All, Option, Some, Result, Ok, IfOk, inl, inr, refl, sym, ap, subst, IsTrue}
+use Rattle.std.specs.Prelude.{is_some, false, slice_get, option_map, Bool}
 use Rattle.std.specs.List.{flat_map}
 use Rattle.std.specs.Io.KnownBytes.{Appends}
 use Rattle.std.proofs.lemmas.List.Elements.{All-head, All-tail}
 use Rattle.std.proofs.lemmas.Option.{slice_get-map}
-use Rattle.git_attributes.specs.Files.{File}
-use Rattle.git_attributes.specs.declared.line_ends.LineEnds.{LineEnds}
 use Rattle.status_call.specs.Inputs.{settings}
 use Rattle.status_call.specs.Query.{Query}
 use Rattle.status_call.specs.StatusTheorem.{IsComplete, IsStatusReport}
 use Rattle.status_call.specs.Visits.{IsFaithful, Visit, finding_of}
-use Rattle.status_call.specs.declared.index_as_worktree.inputs.Settings.{Settings as StatusSettings}
 use Rattle.status_call.specs.declared.index_as_worktree.types.Outcome.{Outcome}
 use Rattle.status_compare.specs.declared.error.Error.{Error}
 use Rattle.status_index.specs.Entries.{index_entry}
 use Rattle.status_index.specs.States.{backing_of, entries_of, index_of}
 use Rattle.status_index.specs.declared.state.State.{State}
-use Rattle.git_status.specs.Differences.{LinesLaw, difference_lines, entry_line, finding_line}
+use Rattle.git_status.specs.Differences.{LinesLaw, PrintsSeen, difference_lines, entry_line, finding_line}
 use Rattle.git_status.specs.Lines.{status_line, visit_line, visit_lines}
-use Rattle.git_status.specs.Runs.{Asking, IsCommandEnd, IsCommandRun, IsStatusRun, printed_text}
+use Rattle.std.proofs.Math.Logic.{∥∥₁_map}
+use Rattle.status_base.specs.Sights.{MayStat}
+use Rattle.status_call.specs.Views.{as_seen}
+use Rattle.git_status.specs.Runs.{Asking, IsCommandEnd, IsCommandRun, IsExit, IsStatusRun, printed_text}
 use Rattle.git_status.specs.declared.asked.Settings.{Settings}
 use Rattle.git_status.specs.declared.answer.Report.{Report}
 use Rattle.git_status.specs.declared.lines.LineStyle.{LineStyle}
@@ -45,20 +45,34 @@ module _ {T U : Type 0} (style : LineStyle) (index : State) where
       let complete = subst (λ a. IfOk a (λ o. o.interrupted ≡ false → IsComplete q index (map finding_of met.more) o)) found (met.complete modelled) in
       ap (visit_lines style) met.grew ∙ all_lines met.more met.faithful ∙ ap (flat_map (finding_line style (index_of index))) (complete whole).records
 
-  run_lines : (q : Query T U) (s : Settings) (old : Option (List ℕ)) (r : Report) (new : Option (List ℕ)) → IsTrue q.modelled → s.lines ≡ Some style → IsStatusRun q index s old (Ok r) new
-      → Appends old new (difference_lines style q index)
-  run_lines q s old r new modelled loud run =
-      let ended = printed run.visits run.answer run.ended in
+  printed : (s : Settings) (visits : List (Visit T U)) (answer : Result Outcome Error) (old : Option (List ℕ)) (r : Report) (new : Option (List ℕ)) → s.lines ≡ Some style → IsCommandEnd s.lines visits answer old (Ok r) new
+      → Appends old new (visit_lines style visits) × (answer ≡ Ok r.outcome)
+  printed s visits answer old r new loud (inl found) = (subst (λ lines. Appends old new (printed_text lines visits)) loud found.0, found.1.outcome)
+  printed s visits answer old r new loud (inr failed) = absurd failed
+
+  -- those of a query whose results are known
+  known_lines : (q query : Query T U) (may : MayStat) (s : Settings) (old : Option (List ℕ)) (r : Report) (new : Option (List ℕ)) → IsTrue q.modelled → s.lines ≡ Some style → (run : IsStatusRun query may index s old (Ok r) new)
+      → IsStatusReport q index [] run.answer run.visits → Appends old new (difference_lines style q index)
+  known_lines q query may s old r new modelled loud run met =
+      let ended = printed s run.visits run.answer old r new loud run.ended in
       let whole = subst (λ a. IfOk a (λ o. o.interrupted ≡ false)) ended.1 (run.computed.whole (ap is_some loud)) in
-      subst (λ lines. Appends old new lines) (met_lines q run.visits run.answer r.outcome modelled run.computed.met ended.1 whole) ended.0
-    where
-      printed : (visits : List (Visit T U)) (answer : Result Outcome Error) → IsCommandEnd s.lines visits answer old (Ok r) new → Appends old new (visit_lines style visits) × (answer ≡ Ok r.outcome)
-      printed visits answer (inl found) = (subst (λ lines. Appends old new (printed_text lines visits)) loud found.0, found.1.outcome)
-      printed visits answer (inr failed) = absurd failed
+      subst (λ lines. Appends old new lines) (met_lines q run.visits run.answer r.outcome modelled met ended.1 whole) ended.0
 
 module _ {T U : Type 0} where
   pub lines_law : (a : Asking T U) (bytes : List ℕ) → LinesLaw a bytes
   unfolding IsCommandRun
   lines_law a bytes modelled style loud dirty old new exit =
-      let read = exit.2.0 in let asked = settings a.settings.options read.index in
-      (read, run_lines style read.index (a.query read.converting.filter asked) a.settings old exit.0 new (modelled read.converting.filter asked) loud exit.2.1)
+      let read = exit.2.0 in let asked = settings a.settings.options read.index in let q = a.query read.converting.filter asked in
+      (read, known_lines style read.index q q a.may_stat a.settings old exit.0 new (modelled read.converting.filter asked) loud exit.2.1 exit.2.1.computed.met)
+
+  -- by what was seen of each entry
+  pub lines_seen : (a : Asking T U) (bytes : List ℕ) (style : LineStyle) → a.settings.lines ≡ Some style → (dirty : Bool) (old new : Option (List ℕ)) → IsExit a bytes dirty old new → PrintsSeen a style bytes old new
+  unfolding IsCommandRun
+  lines_seen a bytes style loud dirty old new exit =
+      let read = exit.2.0 in
+      let run = exit.2.1 in
+      let q = a.query read.converting.filter (settings a.settings.options read.index) in (
+        read,
+        ∥∥₁_map run.computed.seen (λ seen.
+            (record { views = seen.views; allowed = seen.allowed }, known_lines style read.index (as_seen q seen.views) q a.may_stat a.settings old exit.0 new refl loud run seen.report)),
+      )

@@ -2,7 +2,6 @@
 use Rattle.std.specs.Prelude.{◌≡◌, ℕ, Bool, List, [], Option, Some, None, IsTrue, slice_get}
 use Rattle.std.specs.List.{flat_map}
 use Rattle.std.specs.Io.KnownBytes.{Appends}
-use Rattle.git_attributes.specs.Files.{File}
 use Rattle.git_attributes.specs.declared.line_ends.LineEnds.{LineEnds}
 use Rattle.status_call.specs.Inputs.{settings}
 use Rattle.status_call.specs.Query.{Query}
@@ -15,8 +14,7 @@ use Rattle.status_index.specs.Entries.{IndexEntry}
 use Rattle.status_index.specs.States.{index_of}
 use Rattle.status_index.specs.declared.state.State.{State}
 use Rattle.git_status.specs.Lines.{status_line}
-use Rattle.git_status.specs.Runs.{Asking, IsExit, ReadFile}
-use Rattle.git_status.specs.declared.asked.Settings.{Settings}
+use Rattle.git_status.specs.Runs.{Asking, IsExit, ReadFile, SeenBy, seen_query}
 use Rattle.git_status.specs.declared.lines.LineStyle.{LineStyle}
 
 module _ {T U : Type 0} where
@@ -37,6 +35,11 @@ module _ {T U : Type 0} where
   abbrev pub PrintsDifferences : Asking T U → LineStyle → List ℕ → Option (List ℕ) → Option (List ℕ) → Type 0
   PrintsDifferences a style bytes old new =
       (read : ReadFile a bytes) × Appends old new (difference_lines style (a.query read.converting.filter (settings a.settings.options read.index)) read.index)
+
+  -- The bytes are an index file, and the output grew by exactly the lines of its entries that differ, by what was seen of each.
+  abbrev pub PrintsSeen : Asking T U → LineStyle → List ℕ → Option (List ℕ) → Option (List ℕ) → Type 0
+  PrintsSeen a style bytes old new =
+      (read : ReadFile a bytes) × ∥ ((seen : SeenBy a read.index read.converting.filter) × Appends old new (difference_lines style (seen_query a read.index read.converting.filter seen) read.index)) ∥₁
 
   -- Over a modelled worktree a command that ended with exit status 0 or 1 printed so, unless it is quiet.
   abbrev pub LinesLaw : Asking T U → List ℕ → Type 0

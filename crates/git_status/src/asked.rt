@@ -61,6 +61,7 @@ impl<'a, W: Worktree, S: SubmoduleStatus, P: Pathspec, A: AttributeFiles> Questi
     ghost asking = { λ asked. record {
       query = λ filter. ⟦<Compared<'a, 'a, 'a, 'a, W, S, P> as Ask>⟧.query (asked_inputs asked filter);
       are_files = A.are_files asked.attributes;
+      may_stat = W.may_stat asked.worktree.now;
       settings = asked.settings;
     } };
 }

@@ -1,9 +1,11 @@
 //! The command, over any worktree, index file and writers.
 
-ghost use Rattle.std.specs.Prelude.{◌≡◌, ◌≢◌, ◌⊎◌, true, false};
+ghost use Rattle.std.specs.Prelude.{◌≡◌, ◌≢◌, ◌⊎◌, Some, true, false};
 ghost use Rattle.git_status.specs.Printing.{IsFaultLine};
 ghost use Rattle.git_status.specs.Reads.{IsRead};
-ghost use Rattle.git_status.specs.Runs.{IsExit, IsFailedExit, IsCommandRun};
+ghost use Rattle.git_status.specs.Differences.{PrintsSeen};
+ghost use Rattle.git_status.specs.Runs.{IsExit, IsFailedExit, IsCommandRun, IsSeenClean};
+ghost use Rattle.git_status.specs.declared.lines.LineStyle.{LineStyle};
 
 use crate::answer::Report;
 use crate::asked::{Asked, Question};
@@ -28,6 +30,9 @@ use text_output::OutputError;
 /// Returns the exit status: 0 if no entry differs, 1 if one does, and 2 after a failure, which is one line on `faults`,
 /// or none if the reader of the output has ended. Lines that were printed before it stay. With `stats` a line on `faults`
 /// has the counts.
+///
+/// This holds over any worktree, by what was seen: for each entry there are results that the worktree's `lstat` may return,
+/// and what the comparison and the submodule said, by which it differs exactly if it is listed.
 pub fn run_dirty<
     'a,
     R: AllocGlobal + Threads + Wait,
@@ -44,6 +49,9 @@ where
     requires { IsRead asked.settings read.now }
     ensures status { (result ≡ 0) ⊎ ((result ≡ 1) ⊎ (result ≡ 2)) }
     ensures clean { result ≡ 0 → IsExit (⟦<Asked<'a, W, S, P, A> as Question>⟧.asking asked.entry) read.now.bytes.now false (O.contents output.old) (O.contents output.new) }
+    ensures clean_seen { result ≡ 0 → IsSeenClean (⟦<Asked<'a, W, S, P, A> as Question>⟧.asking asked.entry) read.now.bytes.now }
+    ensures lines_seen { result ≢ 2 → (style : LineStyle) → asked.entry.settings.lines ≡ Some style
+        → PrintsSeen (⟦<Asked<'a, W, S, P, A> as Question>⟧.asking asked.entry) style read.now.bytes.now (O.contents output.old) (O.contents output.new) }
     ensures dirty { result ≡ 1 → IsExit (⟦<Asked<'a, W, S, P, A> as Question>⟧.asking asked.entry) read.now.bytes.now true (O.contents output.old) (O.contents output.new) }
     ensures failed { result ≡ 2 → IsFailedExit (⟦<Asked<'a, W, S, P, A> as Question>⟧.asking asked.entry) read.now.bytes.now (O.contents output.old) (O.contents output.new) }
     ensures line { result ≡ 2 → IsFaultLine (E.contents faults.old) (E.contents faults.new) }

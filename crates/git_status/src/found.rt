@@ -87,7 +87,7 @@ fn print_status<
 where
     W::File: Send,
     S::Output: Send,
-    ensures { IsFoundRun wanted (attributes_view filter.entry.attributes.now) ((⟦<Asked<'a, W, S, P, A> as Question>⟧.asking asked.entry).query filter.entry (settings asked.entry.settings.options filter.entry.index.now)) filter.entry.index.now asked.entry.settings (O.contents output.old) result (O.contents output.new) }
+    ensures { IsFoundRun wanted (attributes_view filter.entry.attributes.now) ((⟦<Asked<'a, W, S, P, A> as Question>⟧.asking asked.entry).query filter.entry (settings asked.entry.settings.options filter.entry.index.now)) (W.may_stat asked.entry.worktree.now) filter.entry.index.now asked.entry.settings (O.contents output.old) result (O.contents output.new) }
 {
     let alloc = rt.alloc();
     let Settings { lines, notes, .. } = asked.settings;

@@ -10,7 +10,7 @@ pub returns : goal.returns
 returns g c =
     let s = c.args.asked.settings in
     let call = c.index_as_worktree-answer in
-    computed_from _ c.args.index.now s _ (visits_of call.new.collector.recorder) call.result c.new.ensures (rw (c.new-2.ensures) at (call.ensures.all))
+    computed_from _ _ c.args.index.now s _ (visits_of call.new.collector.recorder) call.result c.new.ensures (rw (c.new-2.ensures) at (call.ensures.all)) (rw (c.new-2.ensures) at (call.ensures.seen))
     (λ some. call.ensures.uninterrupted (elim c.match-asked.branch [
       | in-Some w ↦ w.stop-is
       | in-None w ↦ absurd (none_not_some s.lines w.in-None.is some)
