@@ -15,6 +15,7 @@ pub mod Looks
 pub mod MemoryTree
 pub mod Nodes
 pub mod Objects
+pub mod Openings
 pub mod Outcomes
 pub mod PathTables
 pub mod Paths

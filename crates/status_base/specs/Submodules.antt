@@ -8,3 +8,9 @@ abbrev pub IsSubmoduleAnswer : {U : Type 0} → Result (Option U) (List ℕ) →
 IsSubmoduleAnswer specified (Ok change) = specified ≡ Ok change
 IsSubmoduleAnswer specified (Err (Failed text)) = specified ≡ Err text
 IsSubmoduleAnswer specified (Err Memory) = ⊤
+
+-- The change, or the text of the fault, is one that the submodule may report.
+abbrev pub IsReported : {U : Type 0} → (Result (Option U) (List ℕ) → Type 0) → Result (Option U) SubmoduleFault → Type 0
+IsReported may (Ok change) = may (Ok change)
+IsReported may (Err (Failed text)) = may (Err text)
+IsReported may (Err Memory) = ⊤

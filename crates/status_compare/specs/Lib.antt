@@ -6,7 +6,9 @@ pub mod FastAgrees
 pub mod FaultKinds
 pub mod NamedComparers
 pub mod Reading
+pub mod ReadLaws
 pub mod Reads
+pub mod Seen
 pub mod StreamCounts
 pub mod StreamIds
 pub mod Streams

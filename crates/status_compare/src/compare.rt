@@ -9,6 +9,7 @@ ghost use Rattle.status_compare.specs.Reads.{HasRead};
 ghost use Rattle.status_compare.specs.declared.read_data.Reads.{Reads};
 ghost use Rattle.status_base.specs.Lawful.{CloneKeeps};
 ghost use Rattle.status_compare.specs.Comparers.{fast_answer, counts_after_fast, size_decides, hash_answer, counts_after_hash};
+ghost use Rattle.status_compare.specs.Seen.{IsComparisonSeen, IsIdSeen, IsNewStream};
 ghost use Rattle.status_compare.specs.StreamIds.{IsIdOf};
 ghost use Rattle.std.proofs.Common.{ap};
 ghost use Rattle.status_compare.specs.NamedComparers.{compared_by, counted_by};
@@ -45,6 +46,9 @@ pub trait CompareBlobs: Clone {
         buffer: &mut Vec<u8>,
     ) -> Result<Option<Self::Output>, Error>
         ensures answer { (path : List ℕ) → IfSome (R.readings «data».old) (λ m. IsSpecified (answer self.old (entry_at path entry.now) size m) result) }
+        ensures seen { (path : List ℕ) → IsComparisonSeen (R.may_stream «data».old) (R.may_blob «data».old)
+            (answer self.old (entry_at path entry.now) size) (counts_after self.old (entry_at path entry.now) size)
+            (R.counts «data».old) result (R.counts «data».new) }
         ensures same_answer { answer self.new ≡ answer self.old }
         ensures same_counts { counts_after self.new ≡ counts_after self.old }
         ensures counts { (path : List ℕ) → OnOk result (IfSome (R.readings «data».old) (λ m.
@@ -134,7 +138,8 @@ fn stream_id<F: ReadBytes>(
     kind: HashKind,
     stream: &mut Stream<'_, F>,
 ) -> Result<ObjectId, Error>
-    ensures { (r : Reading) → IsReading F.left r (Ok stream.old) → IsIdOf kind r stream.new result }
+    ensures answer { (r : Reading) → IsReading F.left r (Ok stream.old) → IsIdOf kind r stream.new result }
+    ensures seen { IsNewStream stream.old → IsIdSeen F.may_give kind stream.old stream.new result }
 {
     if let Some(size) = stream.size() {
         return Ok(compute_stream_hash(kind, stream, size)?);

@@ -1,10 +1,11 @@
 //! Reading one entry's file and blob.
 
-ghost use Rattle.std.specs.Prelude.{◌≡◌, IsTrue, OnOk, OnErr};
+ghost use Rattle.std.specs.Prelude.{◌≡◌, false, true, IsTrue, OnOk, OnErr};
 ghost use Rattle.bstr.specs.BStr.{bstr_bytes};
 ghost use Rattle.status_compare.specs.EntryReadings.{entry_readings, if_modelled};
 ghost use Rattle.status_compare.specs.Reads.{with_file};
 ghost use Rattle.status_compare.specs.Reading.{IsReading, target_reading, file_at, counts_at_stream};
+ghost use Rattle.status_compare.specs.Seen.{IsBlobReading, IsFileReading, IsStreamSeen};
 
 use crate::error::Error;
 use crate::read_data::{ReadData, Reads};
@@ -39,6 +40,10 @@ impl<'w, 'r, W: Worktree, T: ToGit, O: Find> EntryReader<'w, 'r, W, T, O> {
     fn stream_target<'a>(&mut self, buffer: &'a mut Vec<u8>) -> Result<Stream<'a, W::File>, Error>
         ensures stream { let r = self.old in IsTrue (W.modelled r.worktree.now)
             → IsReading W.File.left (target_reading (W.target_of r.worktree.now (bstr_bytes r.path))) result }
+        ensures seen { let r = self.old in let path = bstr_bytes r.path in
+            IsStreamSeen W.File.may_give
+            (IsFileReading (W.may_open r.worktree.now path) (W.may_link r.worktree.now path) true (λ c. T.conversion r.filter.now c path) r.len)
+            r.reads result self.new.reads }
         ensures same { self.new ≡ record self.old { reads = self.new.reads } }
         ensures counts { let r = self.old in OnOk result (IsTrue (W.modelled r.worktree.now)
             → self.new.reads ≡ counts_at_stream (target_reading (W.target_of r.worktree.now (bstr_bytes r.path))) r.reads) }
@@ -59,6 +64,10 @@ impl<'w, 'r, W: Worktree, T: ToGit, O: Find> EntryReader<'w, 'r, W, T, O> {
     fn stream_file<'a>(&mut self, buffer: &'a mut Vec<u8>) -> Result<Stream<'a, W::File>, Error>
         ensures stream { let r = self.old in IsTrue (W.modelled r.worktree.now) → IsReading W.File.left
             (file_at (T.conversion r.filter.now) (W.open_of r.worktree.now) r.len (bstr_bytes r.path)) result }
+        ensures seen { let r = self.old in let path = bstr_bytes r.path in
+            IsStreamSeen W.File.may_give
+            (IsFileReading (W.may_open r.worktree.now path) (W.may_link r.worktree.now path) false (λ c. T.conversion r.filter.now c path) r.len)
+            r.reads result self.new.reads }
         ensures same { self.new ≡ record self.old { reads = self.new.reads } }
         ensures counts { OnOk result (self.new.reads ≡ with_file (self.old.reads)) }
         ensures uncounted { OnErr result (self.new.reads ≡ self.old.reads) }
@@ -75,6 +84,10 @@ impl<'w, 'r, W: Worktree, T: ToGit, O: Find> EntryReader<'w, 'r, W, T, O> {
 }
 
 impl<'w, 'r, W: Worktree, T: ToGit, O: Find> ReadData for EntryReader<'w, 'r, W, T, O> {
+    ghost use Rattle.std.specs.Prelude.{Err, refl};
+    ghost use Rattle.status_base.specs.declared.worktree.objects.FindError.TheVariants as finds;
+    ghost use Rattle.status_compare.specs.ReadLaws.{file_may_fail};
+
     type File = W::File;
 
     ghost readings = { λ r. if_modelled (W.modelled r.worktree.now) (O.modelled r.objects.now)
@@ -83,7 +96,16 @@ impl<'w, 'r, W: Worktree, T: ToGit, O: Find> ReadData for EntryReader<'w, 'r, W,
         (W.target_of r.worktree.now (bstr_bytes r.path))
         (O.found r.objects.now r.id)) };
 
+    ghost may_stream = { λ r. IsFileReading (W.may_open r.worktree.now (bstr_bytes r.path)) (W.may_link r.worktree.now (bstr_bytes r.path)) r.is_link
+        (λ c. T.conversion r.filter.now c (bstr_bytes r.path)) r.len };
+
+    ghost may_blob = { λ r. IsBlobReading (O.may_find r.objects.now r.id) };
+
     ghost counts = { λ r. r.reads };
+
+    ghost stream_may_fail = { λ r. file_may_fail r.is_link (W.open_may_fail r.worktree.now (bstr_bytes r.path)) (W.link_may_fail r.worktree.now (bstr_bytes r.path)) };
+
+    ghost blob_may_fail = { λ r. record { found = Err finds.Memory; may_find = O.find_may_fail r.objects.now r.id; is = refl } };
 
     fn read_blob<'a>(&mut self, buffer: &'a mut Vec<u8>) -> Result<&'a [u8], Error> {
         self.objects.find_blob(&self.id, buffer)?;

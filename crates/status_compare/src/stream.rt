@@ -5,10 +5,11 @@ ghost use Rattle.std.specs.Io.{ReadsAtMost};
 ghost use Rattle.std.specs.Io.KnownBytes.{ReadConsumes};
 ghost use Rattle.std.specs.IoError.{error_kind};
 ghost use Rattle.status_index.specs.Content.{CountsRead};
+ghost use Rattle.status_index.specs.Given.{IsAllGiven, IsKnownOrCut};
 ghost use Rattle.status_index.specs.ReadAll.{ReadsAll};
 ghost use Rattle.status_compare.specs.FaultKinds.{kind_of, known_bytes, IsKindOf};
 ghost use Rattle.status_compare.specs.StreamCounts.{count_after, counted_with, count_reported};
-ghost use Rattle.status_compare.specs.Streams.{stream_left, stream_taken, outcome_buffer};
+ghost use Rattle.status_compare.specs.Streams.{stream_gives, stream_left, stream_taken, outcome_buffer};
 
 use status_base::worktree::{Fault, ReadBytes, ToGitOutcome};
 use status_index::read_all;
@@ -95,9 +96,15 @@ fn take_front(bytes: &mut &[u8], buffer: &mut [u8]) -> usize
 }
 
 impl<'a, F: ReadBytes> ReadBytes for Stream<'a, F> {
+    ghost use Rattle.status_compare.specs.ReadLaws.{outcome_may_fail};
+
     ghost left = { λ s. stream_left F.left s };
 
     ghost taken = { λ s. stream_taken s };
+
+    ghost may_give = { λ s. stream_gives F.may_give s };
+
+    ghost give_may_fail = { λ s. outcome_may_fail F.may_give F.give_may_fail s.source };
 
     fn read_bytes(&mut self, buffer: &mut [u8]) -> Result<usize, Fault> {
         let count = match &mut self.source {
@@ -116,6 +123,7 @@ impl<'a, F: ReadBytes> Stream<'a, F> {
         ensures all { ReadsAll (stream_left F.left self.old) (stream_left F.left self.new) into.old.items into.new.items result }
         ensures same_counts { self.new.counts ≡ self.old.counts }
         ensures counted { OnOk result (self.new.counted ≡ count_after self.old.counts self.old.counted (length into.new.items - length into.old.items)) }
+        ensures seen { IsAllGiven (stream_gives F.may_give self.old) into.old.items into.new.items result }
     {
         let before = into.len();
         match &mut self.source {

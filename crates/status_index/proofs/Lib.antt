@@ -1,4 +1,5 @@
 pub mod EmptyBlob
+pub mod Gifts
 pub mod Halvings
 pub mod Indexes
 pub mod Places

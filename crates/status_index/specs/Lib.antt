@@ -5,6 +5,7 @@ pub mod Content
 pub mod DefaultOptions
 pub mod Entries
 pub mod FlagBits
+pub mod Given
 pub mod HasherState
 pub mod Mode
 pub mod NodeStat

@@ -57,6 +57,8 @@ pub struct DiskFile<F> {
 }
 
 impl<F: io::Read + Drop> ReadBytes for DiskFile<F> {
+    ghost give_may_fail = { λ _. tt };
+
     fn read_bytes(&mut self, buffer: &mut [u8]) -> Result<usize, Fault> {
         match self.file.read(buffer) {
             Ok(count) => Ok(count),
@@ -69,6 +71,10 @@ impl<R: Files + AllocGlobal + Drop> Worktree for DiskWorktree<R> {
     type File = DiskFile<R::File>;
 
     ghost stat_may_fail = { λ _ _. tt };
+
+    ghost open_may_fail = { λ _ _. tt };
+
+    ghost link_may_fail = { λ _ _. tt };
 
     fn lstat(&self, path: BStr<'_>) -> Result<Metadata, Fault> {
         let mut buffer = self.buffer();

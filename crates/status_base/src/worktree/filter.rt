@@ -20,7 +20,7 @@ pub enum ToGitOutcome<'a, F> {
 
 /// Converts a worktree's files to the bytes that git stores, as git's clean filters do.
 pub trait ToGit: Clone {
-    ghost use Rattle.status_base.specs.Outcomes.{IsConverted};
+    ghost use Rattle.status_base.specs.Outcomes.{IsConverted, IsConversionSeen};
 
     /// The specified conversion of a file with this content, at a path.
     ghost conversion: { Self → Content → List ℕ → Conversion };
@@ -35,7 +35,8 @@ pub trait ToGit: Clone {
         path: BStr<'_>,
         buffer: &'a mut Vec<u8>,
     ) -> Result<ToGitOutcome<'a, F>, Fault>
-        ensures { (content : Content) → F.left file ≡ Some content → IsConverted F.left (conversion self.now content (bstr_bytes path.entry)) (F.left file) result };
+        ensures answer { (content : Content) → F.left file ≡ Some content → IsConverted F.left (conversion self.now content (bstr_bytes path.entry)) (F.left file) result }
+        ensures seen { IsConversionSeen F.may_give (λ content. conversion self.now content (bstr_bytes path.entry)) (F.may_give file) result };
 
     /// A clone converts in the same way.
     ghost clone_keeps_conversion: { CloneKeeps Self.is_clone conversion };

@@ -43,6 +43,7 @@ impl Worktree for MemoryWorktree {
     ghost use Rattle.std.proofs.Common.{inr};
     ghost use Rattle.status_index.specs.Answer.{IsAnswer};
     ghost use Rattle.status_base.specs.MemoryTree.{lstat_in, open_in, target_in};
+    ghost use Rattle.status_base.specs.Openings.{IsKnownOpening};
 
     type File = MemoryFile;
 
@@ -56,7 +57,15 @@ impl Worktree for MemoryWorktree {
 
     ghost may_stat = { λ tree path answer. IsAnswer (lstat_in tree path) answer };
 
+    ghost may_open = { λ tree path. IsKnownOpening (open_in tree path) };
+
+    ghost may_link = { λ tree path answer. IsAnswer (target_in tree path) answer };
+
     ghost stat_may_fail = { λ _ _. inr refl };
+
+    ghost open_may_fail = { λ _ _. inr refl };
+
+    ghost link_may_fail = { λ _ _. inr refl };
 
     fn lstat(&self, path: BStr<'_>) -> Result<Metadata, Fault> {
         let path = path.as_bytes();

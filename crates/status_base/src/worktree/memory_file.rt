@@ -63,8 +63,14 @@ impl MemoryFile {
 
 impl ReadBytes for MemoryFile {
     ghost use Rattle.std.specs.Prelude.{Some};
+    ghost use Rattle.status_index.specs.Given.{IsKnownOrCut};
+    ghost use Rattle.status_index.proofs.Gifts.{cut_at_once};
 
     ghost left = { Some };
+
+    ghost may_give = { IsKnownOrCut };
+
+    ghost give_may_fail = { cut_at_once };
 
     fn read_bytes(&mut self, buffer: &mut [u8]) -> Result<usize, Fault> {
         if let Some(fault) = self.fault_at_end() {

@@ -26,7 +26,9 @@ pub enum FindError {
 /// A collection of blobs, found by their ids. It is either modelled, and then a blob is a function of the id, or not,
 /// such as an object database on a disk.
 pub trait Find: Clone {
-    ghost use Rattle.status_base.specs.FindAnswers.{IsFindAnswer};
+    ghost use Rattle.std.specs.Prelude.{Err, ⊤};
+    ghost use Rattle.status_base.specs.FindAnswers.{IsFindAnswer, IsFindSeen};
+    ghost use Rattle.status_base.specs.declared.worktree.objects.FindError.TheVariants.{Memory};
 
     /// Whether the collection is modelled.
     ghost modelled: { Self → Bool };
@@ -34,19 +36,30 @@ pub trait Find: Clone {
     /// The specified content of each blob, or why there is none.
     ghost found: { Self → BlobName → Result (List ℕ) NotFound };
 
+    /// Which contents a blob may have, and which errors finding it may have.
+    ghost may_find: { Self → BlobName → Result (List ℕ) NotFound → Type 0 } = { λ _ _ _. ⊤ };
+
     /// Reads a blob into `buffer`, replacing its content.
     ///
     /// # Errors
     /// `Missing` if there is no blob of that id, or out of memory. After an error the content of `buffer` isn't
     /// specified.
     fn find_blob(&self, id: &ObjectId, buffer: &mut Vec<u8>) -> Result<(), FindError>
-        ensures { IsTrue (modelled self.now) → IsFindAnswer (found self.now id.now) result buffer.new.items };
+        ensures answer { IsTrue (modelled self.now) → IsFindAnswer (found self.now id.now) result buffer.new.items }
+        ensures seen { IsFindSeen (may_find self.now id.now) result buffer.new.items };
 
     /// A clone is modelled exactly if its original is.
     ghost clone_keeps_modelled: { CloneKeeps Self.is_clone modelled };
 
     /// A clone has the same blobs.
     ghost clone_keeps_found: { CloneKeeps Self.is_clone found };
+
+    /// A clone finds nothing that its original may not find.
+    ghost clone_finds_within: { (one other : Self) → Self.is_clone one other → (id : BlobName) (found : Result (List ℕ) NotFound)
+        → may_find other id found → may_find one id found };
+
+    /// Finding a blob may always run out of memory.
+    ghost find_may_fail: { (blobs : Self) (id : BlobName) → may_find blobs id (Err Memory) };
 }
 
 /// Blobs in memory, by their ids. Whether an id is its content's digest isn't checked.
@@ -118,6 +131,10 @@ impl Find for MemoryObjects {
     ghost clone_keeps_modelled = { λ _ _ _. refl };
 
     ghost clone_keeps_found = { λ _ _ same. ap found_in same };
+
+    ghost clone_finds_within = { λ _ _ _ _ _ _. tt };
+
+    ghost find_may_fail = { λ _ _. tt };
 
     fn find_blob(&self, id: &ObjectId, buffer: &mut Vec<u8>) -> Result<(), FindError> {
         let Some(content) = self.contents.get(id) else {

@@ -35,7 +35,8 @@ impl From<AllocError> for SubmoduleFault {
 /// The status of submodules. It is either modelled, and then a function of the submodule's index entry, or not, such
 /// as one of repositories on a disk.
 pub trait SubmoduleStatus: Clone {
-    ghost use Rattle.status_base.specs.Submodules.{IsSubmoduleAnswer};
+    ghost use Rattle.std.specs.Prelude.{⊤};
+    ghost use Rattle.status_base.specs.Submodules.{IsSubmoduleAnswer, IsReported};
 
     /// A change of a submodule.
     type Output: Drop;
@@ -45,6 +46,9 @@ pub trait SubmoduleStatus: Clone {
 
     /// The specified change of an entry's submodule, or the text of its fault.
     ghost status_of: { Self → IndexEntry → Result (Option Self.Output) (List ℕ) };
+
+    /// Which changes an entry's submodule may have, and which texts its fault may have.
+    ghost may_report: { Self → IndexEntry → Result (Option Self.Output) (List ℕ) → Type 0 } = { λ _ _ _. ⊤ };
 
     /// Returns how the submodule of `entry` at `path` changed, or None if it didn't.
     ///
@@ -56,6 +60,8 @@ pub trait SubmoduleStatus: Clone {
         path: BStr<'_>,
     ) -> Result<Option<Self::Output>, SubmoduleFault>
         ensures answer { IsTrue (modelled self.old) → IsSubmoduleAnswer (status_of self.old (entry_at (bstr_bytes path.entry) entry.now)) result }
+        ensures seen { IsReported (may_report self.old (entry_at (bstr_bytes path.entry) entry.now)) result }
+        ensures within { (e : IndexEntry) (report : Result (Option Self.Output) (List ℕ)) → may_report self.new e report → may_report self.old e report }
         ensures same { status_of self.new ≡ status_of self.old }
         ensures modelled { modelled self.new ≡ modelled self.old };
 
@@ -64,6 +70,10 @@ pub trait SubmoduleStatus: Clone {
 
     /// A clone returns the same status of every submodule.
     ghost clone_keeps_status: { CloneKeeps Self.is_clone status_of };
+
+    /// A clone reports nothing that its original may not report.
+    ghost clone_reports_within: { (one other : Self) → Self.is_clone one other → (e : IndexEntry) (report : Result (Option Self.Output) (List ℕ))
+        → may_report other e report → may_report one e report };
 }
 
 /// Submodules that never change.
@@ -80,6 +90,8 @@ impl SubmoduleStatus for NoSubmodules {
     ghost clone_keeps_modelled = { λ _ _ _. refl };
 
     ghost clone_keeps_status = { λ _ _ _. refl };
+
+    ghost clone_reports_within = { λ _ _ _ _ _ _. tt };
 
     fn status(&mut self, _entry: &Entry, _path: BStr<'_>) -> Result<Option<()>, SubmoduleFault> {
         Ok(None)

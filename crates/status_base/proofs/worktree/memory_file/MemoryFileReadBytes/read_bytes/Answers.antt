@@ -1,4 +1,5 @@
-use Rattle.std.proofs.Common.{◌≡◌, [], ◌≤◌, length, drop, arith, sym, ap, ◌∙◌}
+use Rattle.std.proofs.Common.{◌≡◌, [], ◌≤◌, length, drop, arith, sym, ap, ◌∙◌, Ok}
+use Rattle.status_index.proofs.Gifts.{known_step}
 use Rattle.status_base.proofs.FileReads.{read_front, read_nothing}
 use Rattle.status_base.proofs.worktree.memory_file.MemoryFileReadBytes.read_bytes.Goals as goal
 
@@ -15,3 +16,6 @@ returns-clause-bytes c =
       fault,
       λ none room. let ended : c.args.self.now.bytes ≡ [] = sym left ∙ read_nothing bytes c.args.buffer.now _ at _ inside count copied none room in (ended, end ended),
     )
+
+pub returns-clause-seen : goal.returns-clause-seen
+returns-clause-seen c = known_step c.args.self.now _ (Ok _) _ (returns-clause-bytes c)
