@@ -148,7 +148,7 @@ module _ {T U : Type 0} where
 
   -- A status of an index that was read, by what was seen of each considered entry.
   pub record SeenBy (a : Asking T U) (index : State) (filter : LineEnds) : Type 0 where
-    pub views : Views T U
+    pub views : Views U
     pub allowed : AllAllowed (λ _ view. IsViewAllowed a.may_stat a.settings.options.fscache view) (considered_entries (a.query filter (settings a.settings.options index)) index) views
 
   -- The query of what was seen.

@@ -108,7 +108,7 @@ module _ {T U : Type 0} where
       let k : length (p ∷ r ∷ rs) - 1 ≡ suc (length (r ∷ rs) - 1) = omega arith in
       (e.0, sym (ap (slice_get (p ∷ r ∷ rs)) k) ∙ e.1, e.2)
 
-module _ {T U : Type 0} (q : Query T U) (may : Allows T U) (interruptible : Bool) (start : ℕ) (es : List IndexEntry) (bounds : List ℕ) (are : AreBounds es bounds) where
+module _ {T U : Type 0} (q : Query T U) (may : Allows U) (interruptible : Bool) (start : ℕ) (es : List IndexEntry) (bounds : List ℕ) (are : AreBounds es bounds) where
   abbrev Gives : ℕ → Piece T U → Type 0
   Gives n p = IsResult q may interruptible start es (bound bounds n) (bound bounds (n + 1)) p
 

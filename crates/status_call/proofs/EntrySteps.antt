@@ -31,7 +31,7 @@ module _ (b : PathStorage) (es : List IndexEntry) (i : ℕ) (entry : Entry) (pat
       let own : path ≡ path_in b entry = named d ∙ ap (λ (x : IndexEntry). x.path) (sym (stored d)) in
       sym (stored d) ∙ ap (λ (p : List ℕ). entry_at p entry) (sym own)
 
-  module _ {T U : Type 0} (q : Query T U) (may : Allows T U) (free : Views T U) (freely : (e : IndexEntry) → may e (free e)) (fresh : IsFresh q (take i es) (drop i es)) (flagged : Bool) (flags : (p : List ℕ) → flagged ≡ is_flagged (entry_at p entry)) where
+  module _ {T U : Type 0} (q : Query T U) (may : Allows U) (free : Views U) (freely : (e : IndexEntry) → may e (free e)) (fresh : IsFresh q (take i es) (drop i es)) (flagged : Bool) (flags : (p : List ℕ) → flagged ≡ is_flagged (entry_at p entry)) where
     pub head_flagged : flagged ≡ true → (s : Step T U) → IsSelf s 1 flagged_counts → s.status ≡ None → s.totals.reads ≡ no_reads → IsNext q may es i s
     head_flagged h s self none read = next_flagged es index i head within here q may free freely fresh s self none read (sym (flags path) ∙ h)
 
@@ -61,7 +61,7 @@ module _ (b : PathStorage) (es : List IndexEntry) (i : ℕ) (entry : Entry) (pat
             next_faulty es index i head within here q may free freely fresh kept error (sym staged ∙ h) decided seen
 
 -- The same for an equal query, and by what more is allowed.
-module _ {T U : Type 0} (q r : Query T U) (less may : Allows T U) (same : q ≡ r) (within : SeesWithin less may) (es : List IndexEntry) (i : ℕ) where
+module _ {T U : Type 0} (q r : Query T U) (less may : Allows U) (same : q ≡ r) (within : SeesWithin less may) (es : List IndexEntry) (i : ℕ) where
   pub IsNext-kept : (s : Step T U) → IsNext q less es i s → IsNext r may es i s
   IsNext-kept s h =
       let P : Query T U → Type 0 = λ z. IsNext z may es i s in

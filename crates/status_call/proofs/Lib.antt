@@ -3,6 +3,7 @@ pub mod ConflictRuns
 pub mod Conflicts
 pub mod Considered
 pub mod ConsideredParts
+pub mod ContentViews
 pub mod Counts
 pub mod EntryCases
 pub mod EntrySteps

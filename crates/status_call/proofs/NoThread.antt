@@ -111,7 +111,7 @@ module _ {T U : Type 0} (q : Query T U) (e : IndexEntry) (n : Metadata) where
   no_hash : hash_answer e (readings q e n).file ≡ Err SpawnThread → ⊥
   no_hash =
       no_change e.id (reading_id (id_kind e.id) (readings q e n).file)
-      (no_reading (id_kind e.id) (reads_link q.symlink e.mode n.kind) (λ c. q.conversion c e.path) n.len (q.opened e.path) (q.linked e.path))
+      (no_reading (id_kind e.id) (reads_link q.symlink e.mode n.kind) (λ c. q.conversion c e.path) n.len (q.opened e) (q.linked e))
 
 pub ids_law : {U : Type 0} (q : Query ObjectId U) → IdsLaw q
 ids_law q is e n h = no_hash q e n (sym (ap (λ f. f e n.len (readings q e n)) is) ∙ h)

@@ -56,8 +56,8 @@ module _ {T U : Type 0} where
   one_record i (Some s) = omega arith
 
 -- If one value sees no more than another, its views are also views of the other.
-module _ {T U : Type 0} (q : Query T U) (less more : Allows T U) (within : SeesWithin less more) (es : List IndexEntry) where
-  all_within : (part : List IndexEntry) (views : Views T U) → AllAllowed less part views → AllAllowed more part views
+module _ {T U : Type 0} (q : Query T U) (less more : Allows U) (within : SeesWithin less more) (es : List IndexEntry) where
+  all_within : (part : List IndexEntry) (views : Views U) → AllAllowed less part views → AllAllowed more part views
   all_within part views h k d l = within (slice_index_or part k d) (views (slice_index_or part k d)) (h k d l)
 
   pub step_within : (part : List IndexEntry) (s : Step T U) → IsStepSeen q less es part s → IsStepSeen q more es part s
@@ -112,13 +112,13 @@ module _ {T U : Type 0} (q : Query T U) (less more : Allows T U) (within : SeesW
   }
 
 -- Memory may run out at any entry.
-pub out_of_memory : {T U : Type 0} (q : Query T U) (may : Allows T U) (free : Views T U) → ((e : IndexEntry) → may e (free e)) → (es : List IndexEntry) (at : ℕ) → IsFaulty q may es at Memory
+pub out_of_memory : {T U : Type 0} (q : Query T U) (may : Allows U) (free : Views U) → ((e : IndexEntry) → may e (free e)) → (es : List IndexEntry) (at : ℕ) → IsFaulty q may es at Memory
 out_of_memory q may free freely es at = record {
   specified = λ _. inr refl;
   seen = merely (record { views = free; allowed = λ d. freely (slice_index_or es at d); fault = inr refl });
 }
 
-module _ {T U : Type 0} (q : Query T U) (may : Allows T U) (free : Views T U) (start : ℕ) (es : List IndexEntry) where
+module _ {T U : Type 0} (q : Query T U) (may : Allows U) (free : Views U) (start : ℕ) (es : List IndexEntry) where
   -- Nothing is done yet.
   pub done_none : IsIndex es → (from : ℕ) → from ≤ length es → IsDone q may start es from from [] no_totals
   done_none index from l =
@@ -142,7 +142,7 @@ module _ {T U : Type 0} (q : Query T U) (may : Allows T U) (free : Views T U) (s
         clear = ap (faults_in r es) none;
       }
 
-module _ {T U : Type 0} (q : Query T U) (may : Allows T U) (start : ℕ) (es : List IndexEntry) where
+module _ {T U : Type 0} (q : Query T U) (may : Allows U) (start : ℕ) (es : List IndexEntry) where
   -- One step.
   pub done_next : (at : ℕ) (s : Step T U) → IsNext q may es at s → IsDone q may start es at (at + s.len) (record_by (start + at) (Ok s.status)) s.totals
   done_next at s h = record {
@@ -202,7 +202,7 @@ module _ {T U : Type 0} (q : Query T U) (may : Allows T U) (start : ℕ) (es : L
         -- The views of both, as one view of each entry.
         seen_more : IsWorkSeen q may start es from at rs a → IsWorkSeen q may start es at to more b → IsWorkSeen q may start es from to (rs ++ more) (plus_totals a b)
         seen_more m n =
-            let views : Views T U = joined es h.index at m.views n.views in
+            let views : Views U = joined es h.index at m.views n.views in
             let front : All (λ e. m.views e ≡ views e) (part_of es from at) = All-part_from es from at (λ e. m.views e ≡ views e) (λ i d l o p. sym (joined_front es h.index at m.views n.views i d o p)) in
             let back : All (λ e. n.views e ≡ views e) (part_of es at to) = All-part_from es at to (λ e. n.views e ≡ views e) (λ i d l o p. sym (joined_back es h.index at m.views n.views i d l p)) in
             let all = All-append (λ e. may e (views e)) (part_of es from at) (part_of es at to) (allowed_along may m.views views (part_of es from at) front m.allowed) (allowed_along may n.views views (part_of es at to) back n.allowed) in
@@ -241,7 +241,7 @@ fresh_cut q es k cut =
     and_left _ _ (and_left _ _ (and_right _ _ other)))))
 
 -- The state of the work on a piece.
-pub record IsWorking {T U : Type 0} (q : Query T U) (may : Allows T U) (start : ℕ) (es : List IndexEntry) (from to at : ℕ) (findings : List (Finding T U)) (totals : Totals) : Type 0 where
+pub record IsWorking {T U : Type 0} (q : Query T U) (may : Allows U) (start : ℕ) (es : List IndexEntry) (from to at : ℕ) (findings : List (Finding T U)) (totals : Totals) : Type 0 where
   pub done : IsDone q may start es from at findings totals
   pub fresh : IsFresh q (take at es) (drop at es)
   pub upto : at ≤ to

@@ -1,28 +1,32 @@
 -- The look-up of a path and the comparison of a content, by a view.
-use Rattle.std.proofs.Common.{◌≡◌, refl, sym, ap, ◌∙◌, subst, ℕ, List, Bool, true, false, not, ◌&&◌, ◌||◌, inl, inr, Option, Some, None, is_some, Result, Ok, Err, if◌then◌else◌}
+use Rattle.std.proofs.Common.{◌≡◌, ◌⊎◌, refl, sym, ap, ◌∙◌, subst, ℕ, List, Bool, true, false, not, ◌&&◌, ◌||◌, inl, inr, Option, Some, None, is_some, Result, Ok, Err, IsTrue, if◌then◌else◌}
 use Rattle.status_index.specs.declared.fault.Fault.{Fault}
 use Rattle.status_index.specs.declared.stat.Metadata.{Metadata}
 use Rattle.status_index.specs.declared.stat.Stat.{Stat}
 use Rattle.status_index.specs.Entries.{IndexEntry}
+use Rattle.status_index.specs.Mode.{is_submodule}
 use Rattle.status_index.specs.Stat.{is_racy}
 use Rattle.status_base.specs.LinkCheck.{LinkCheck, accepted, link_check}
 use Rattle.status_base.specs.Sights.{AreAllowed, MayStat, Stats}
 use Rattle.status_base.proofs.SightLemmas.{answer_here, link_check_with_answer, with_answer, with_answer_allowed}
 use Rattle.status_compare.specs.declared.error.Error.{Error}
+use Rattle.status_compare.specs.declared.error.Error.TheVariants as errors
 use Rattle.status_compare.specs.declared.read_data.Reads.{Reads}
+use Rattle.status_compare.specs.Reading.{IsSpecified}
 use Rattle.status_compare.specs.Reads.{no_reads}
 use Rattle.status_call.specs.declared.index_as_worktree.lookup.Look.{Look}
 use Rattle.status_call.specs.declared.index_as_worktree.step.Decided.{Decided}
 use Rattle.status_call.specs.declared.index_as_worktree.lookup.AtPath.{AtPath}
+use Rattle.status_call.specs.declared.index_as_worktree.lookup.AtPath.TheVariants as presences
 use Rattle.status_call.specs.declared.index_as_worktree.types.EntryStatus.{EntryStatus}
 use Rattle.status_call.specs.Counts.{calls_lstat, is_accepted, is_compared_case, is_racy_case, reads_of_found}
-use Rattle.status_call.specs.Decisions.{IsDecided}
 use Rattle.status_call.specs.EntryParts.{IsCaseDecided, IsLook, IsOfCase, found_presence}
-use Rattle.status_call.specs.EntrySights.{IsLookSeen, IsViewAllowed}
+use Rattle.status_call.specs.EntrySights.{IsContentAllowed, IsDirectorySeen, IsLookSeen, IsSubmoduleSeen, IsViewAllowed}
+use Rattle.status_call.specs.MayReturn.{MayReturn}
 use Rattle.status_call.specs.Query.{Query}
-use Rattle.status_call.specs.Status.{Case, Found, answer, cached_or, case_of_content, case_of_found, compared, found, found_by, found_node, is_trusted, readings, unchanged}
+use Rattle.status_call.specs.Status.{Case, Found, answer, cached_or, case_of_content, case_of_found, compared, directory, directory_case, found, found_by, found_node, gone, in_submodule, is_trusted, readings, refused, unchanged}
 use Rattle.status_call.specs.Views.{IsSeenDecided, View, as_seen, nothing_seen}
-use Rattle.status_call.proofs.EntryCases.{calls_comparer, is_decided}
+use Rattle.status_call.proofs.EntryCases.{calls_comparer, counted_look, is_decided}
 
 module _ (may : MayStat) (fscache : Bool) (path : List ℕ) where
   -- If no directory bars the way, the node decides: one that a listing knows, or the result of `lstat`.
@@ -97,30 +101,96 @@ module _ {T U : Type 0} (q : Query T U) (e : IndexEntry) where
       let called : case_of_content q e n s x trusted racy ≡ compared x trusted racy s (Err error) = calls_comparer q e n s x trusted racy (sym by_test ∙ needed) ∙ ap (λ (r : Result (Option T) Error). compared x trusted racy s r) fails in
       subst Q same_trusted (subst R same_racy (subst P (sym called) refl))
 
-  -- The look-up of the path failed.
-  pub seen_refused : (may : MayStat) (fscache : Bool) (error : Error) → IsLookSeen may fscache e.path (Err error) → IsSeenDecided (λ _ view. IsViewAllowed may fscache view) q e (Err error)
-  seen_refused may fscache error s =
-      let view : View T U = record nothing_seen { lstat = s.lstat; listed = s.listed } in
-      record { view = view; allowed = record { stats = s.allowed; unlisted = s.unlisted }; decided = by_look (as_seen q (λ _. view)) s.look }
-    where
-      by_look : (r : Query T U) → IsLook (found r e) (calls_lstat r e) (Err error) → IsDecided r e (Err error)
-      by_look r (inl h) = inl (ap (λ (x : Found). answer e.path (case_of_found r e x)) h.1 ∙ ap (λ (x : Error). Err x) (sym h.2))
-      by_look r (inr h) = inr h
+  -- The same, or memory ran out.
+  pub comparison_failed : (n : Metadata) (s : Stat) (x trusted racy compares : Bool) (error : Error)
+      → trusted ≡ is_trusted q e s → racy ≡ is_racy q.stat_options q.timestamp s → compares ≡ (x || not trusted || racy) → compares ≡ true
+      → (q.compared e n.len (readings q e n) ≡ Err error) ⊎ (error ≡ errors.Memory)
+      → (answer e.path (case_of_content q e n s x (is_trusted q e s) (is_racy q.stat_options q.timestamp s)) ≡ Err error) ⊎ (error ≡ errors.Memory)
+  comparison_failed n s x trusted racy compares error same_trusted same_racy by_test needed (inl fails) = inl (failed_of_case n s x trusted racy compares error same_trusted same_racy by_test needed fails)
+  comparison_failed n s x trusted racy compares error same_trusted same_racy by_test needed (inr none) = inr none
 
-  -- The decision for what was found at the path.
-  module _ (may : MayStat) (fscache : Bool) (look : Look) (p : AtPath) (is : look.presence ≡ p) (s : IsLookSeen may fscache e.path (Ok look)) where
-    -- With what the submodule and the comparer said.
-    abbrev pub view_with : Result (Option U) (List ℕ) → Result (Option T) Error → Reads → View T U
-    view_with submodule said reads = record { lstat = s.lstat; listed = s.listed; submodule = submodule; compared = said; reads = reads }
+  -- A view by which the look-up of the path fails has no directory there.
+  refused_directory : (A : Type 0) (k : Found) (f : Fault) → k ≡ refused f → k ≡ directory → A
+  refused_directory A k f one other = absurd (let h = sym one ∙ other in cc)
 
-    pub seen_found : (submodule : Result (Option U) (List ℕ)) (said : Result (Option T) Error) (reads : Reads) (r : Result (Decided T U) Error)
-        → IsCaseDecided e.path (case_of_found (as_seen q (λ _. view_with submodule said reads)) e (found_presence p)) look.lstat_called (Some (reads_of_found (as_seen q (λ _. view_with submodule said reads)) e (found_presence p))) r
-        → IsSeenDecided (λ _ view. IsViewAllowed may fscache view) q e r
-    seen_found submodule said reads r h =
-        let view : View T U = view_with submodule said reads in
+  module _ (may : MayReturn U) (fscache : Bool) (free : IsViewAllowed may fscache e nothing_seen) where
+    -- The look-up of the path failed.
+    module _ (error : Error) (s : IsLookSeen may.stat fscache e.path (Err error)) where
+      abbrev refused_view : View U
+      refused_view = record nothing_seen { lstat = s.lstat; listed = s.listed }
+
+      refused_look : IsLook (found (as_seen q (λ _. refused_view)) e) (calls_lstat (as_seen q (λ _. refused_view)) e) (Err error) → IsSeenDecided (IsViewAllowed may fscache) q e (Err error)
+      refused_look (inl h) = record {
+        view = refused_view;
+        allowed = record {
+          stats = s.allowed;
+          unlisted = s.unlisted;
+          content = record { opened = free.content.opened; linked = free.content.linked; blob = free.content.blob };
+          submodule = λ there _. refused_directory _ (found (as_seen q (λ _. refused_view)) e) h.0 h.1 there;
+        };
+        decided = inl (ap (λ (x : Found). answer e.path (case_of_found (as_seen q (λ _. refused_view)) e x)) h.1 ∙ ap (λ (x : Error). Err x) (sym h.2));
+      }
+      refused_look (inr h) = record { view = nothing_seen; allowed = free; decided = inr h }
+
+      pub seen_refused : IsSeenDecided (IsViewAllowed may fscache) q e (Err error)
+      seen_refused = refused_look s.look
+
+  -- The decision for what was found at the path, by a view's contents and by what its submodule said.
+  module _ (may : MayReturn U) (fscache : Bool) (look : Look) (p : AtPath) (is : look.presence ≡ p) (s : IsLookSeen may.stat fscache e.path (Ok look)) where
+    abbrev pub view_with : View U → View U
+    view_with v = record v { lstat = s.lstat; listed = s.listed }
+
+    pub seen_found : (v : View U) → IsContentAllowed may e v → (found_presence p ≡ directory → IsTrue (is_submodule e.mode) → may.reported e v.submodule) → (r : Result (Decided T U) Error)
+        → IsCaseDecided e.path (case_of_found (as_seen q (λ _. view_with v)) e (found_presence p)) look.lstat_called (Some (reads_of_found (as_seen q (λ _. view_with v)) e (found_presence p))) r
+        → IsSeenDecided (IsViewAllowed may fscache) q e r
+    seen_found v content said r h =
+        let view : View U = view_with v in
+        let same : found (as_seen q (λ _. view)) e ≡ found_presence p = s.look.0 ∙ ap found_presence is in
         record {
           view = view;
-          allowed = record { stats = s.allowed; unlisted = s.unlisted };
+          allowed = record { stats = s.allowed; unlisted = s.unlisted; content = record { opened = content.opened; linked = content.linked; blob = content.blob }; submodule = λ there. said (sym same ∙ there) };
           decided = is_decided (as_seen q (λ _. view)) e (found_presence p) look.lstat_called (Some (reads_of_found (as_seen q (λ _. view)) e (found_presence p))) r
-              (s.look.0 ∙ ap found_presence is) (sym s.look.1) (λ _. refl) h;
+              same (sym s.look.1) (λ _. refl) h;
         }
+
+    -- A directory is there: the decision by what the submodule may report.
+    pub directory_seen : p ≡ presences.Directory → IsViewAllowed may fscache e nothing_seen → (d : Decided T U) → IsDirectorySeen (may.reported e) e (Ok d) → IsSeenDecided (IsViewAllowed may fscache) q e (Ok (record d { lstat_called = look.lstat_called }))
+    directory_seen there free d (inl h) = absurd (let x = h in cc)
+    directory_seen there free d (inr said) =
+        let v : View U = record nothing_seen { submodule = said.said } in
+        seen_found v (record { opened = free.content.opened; linked = free.content.linked; blob = free.content.blob }) (λ _ yes. said.allowed yes) (Ok (record d { lstat_called = look.lstat_called }))
+        (subst (λ (a : AtPath). IsCaseDecided e.path (case_of_found (as_seen q (λ _. view_with v)) e (found_presence a)) look.lstat_called (Some (reads_of_found (as_seen q (λ _. view_with v)) e (found_presence a))) (Ok (record d { lstat_called = look.lstat_called })))
+        (sym there) (counted_look e.path (directory_case e said.said) look.lstat_called (Some no_reads) d said.decided))
+
+    pub directory_refused : p ≡ presences.Directory → IsViewAllowed may fscache e nothing_seen → (x : Error) → IsDirectorySeen {T = T} (may.reported e) e (Err x) → IsSeenDecided (IsViewAllowed may fscache) q e (Err x)
+    directory_refused there free x (inl h) =
+        let same : x ≡ errors.Memory = cc in
+        record { view = nothing_seen; allowed = free; decided = inr same }
+    directory_refused there free x (inr said) =
+        let v : View U = record nothing_seen { submodule = said.said } in
+        seen_found v (record { opened = free.content.opened; linked = free.content.linked; blob = free.content.blob }) (λ _ yes. said.allowed yes) (Err x)
+        (subst (λ (a : AtPath). IsCaseDecided e.path (case_of_found (as_seen q (λ _. view_with v)) e (found_presence a)) look.lstat_called (Some (reads_of_found (as_seen q (λ _. view_with v)) e (found_presence a))) (Err x)) (sym there) said.decided)
+
+-- The decision of a submodule's entry by what its submodule may report.
+module _ {T U : Type 0} (e : IndexEntry) (may : Result (Option U) (List ℕ) → Type 0) (yes : is_submodule e.mode ≡ true) where
+  case_said : (said : Result (Option U) (List ℕ)) → directory_case {T = T} e said ≡ in_submodule said
+  case_said said = ap (λ (b : Bool). if b then in_submodule said else gone) yes
+
+  pub directory_failed : (x : Error) (r : Result (Decided T U) Error) → r ≡ Err x → IsSubmoduleSeen {T = T} may e.path (Err x) → IsDirectorySeen may e r
+  directory_failed x r is (inl h) = let same : x ≡ errors.Memory = cc in inl (is ∙ ap (λ (y : Error). Err y) same)
+  directory_failed x r is (inr s) =
+      inr (record { said = s.said; allowed = λ _. s.allowed; decided = subst (λ (z : Result (Decided T U) Error). IsCaseDecided e.path (directory_case e s.said) false (Some no_reads) z) (sym is) (by_status s.status) })
+    where
+      by_status : IsSpecified (answer {T = T} e.path (in_submodule s.said)) (Err x) → IsCaseDecided e.path (directory_case {T = T} e s.said) false (Some no_reads) (Err x)
+      by_status (inl h) = inl (ap (answer e.path) (case_said s.said) ∙ sym h)
+      by_status (inr h) = let same : x ≡ errors.Memory = cc in inr same
+
+  pub directory_done : (status : Option (EntryStatus T U)) (d : Decided T U) → d ≡ record { status = status; lstat_called = false; racy = false; reads = no_reads }
+      → IsSubmoduleSeen {T = T} may e.path (Ok status) → IsDirectorySeen may e (Ok d)
+  directory_done status d is (inl h) = absurd (let x = h in cc)
+  directory_done status d is (inr s) =
+      inr (record { said = s.said; allowed = λ _. s.allowed; decided = subst (λ (k : Case T U). IsOfCase e.path k false (Some no_reads) d) (sym (case_said s.said)) (unread_case e.path (in_submodule s.said) status false no_reads d is (by_status s.status) refl refl) })
+    where
+      by_status : IsSpecified (answer {T = T} e.path (in_submodule s.said)) (Ok status) → answer {T = T} e.path (in_submodule s.said) ≡ Ok status
+      by_status (inl h) = sym h
+      by_status (inr h) = absurd (let x = h in cc)

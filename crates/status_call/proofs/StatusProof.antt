@@ -93,7 +93,7 @@ module _ {T U : Type 0} (q : Query T U) (start : ℕ) (es : List IndexEntry) whe
 begins_more : {A : Type 0} (xs ys zs : List A) → IsBeginning xs ys → IsBeginning ys zs → IsBeginning xs zs
 begins_more xs ys zs a b = (a.0 ++ b.0, sym (append_assoc xs a.0 b.0) ∙ ap (λ (l : List _). l ++ b.0) a.1 ∙ b.1)
 
-module _ {T U : Type 0} (q : Query T U) (may : Allows T U) (index : State) (has_flag : Bool) (old new : List (Visit T U)) where
+module _ {T U : Type 0} (q : Query T U) (may : Allows U) (index : State) (has_flag : Bool) (old new : List (Visit T U)) where
   abbrev es : List IndexEntry
   es = considered_entries q index
 
@@ -230,7 +230,7 @@ module _ {T U : Type 0} (q : Query T U) (may : Allows T U) (index : State) (has_
         no_thread t (same ∙ ap most_workers one) never stop.by (err_same e SpawnThread h)
 
 -- The same work, for an equal query and an equal part.
-pub work_kept : {T U : Type 0} (q r : Query T U) (may : Allows T U) (faithful : Visit T U → Type 0) (interruptible : Bool) (workers start place : ℕ) (whole part : List IndexEntry) (old new : List (Visit T U)) (result : Result Progress Error)
+pub work_kept : {T U : Type 0} (q r : Query T U) (may : Allows U) (faithful : Visit T U → Type 0) (interruptible : Bool) (workers start place : ℕ) (whole part : List IndexEntry) (old new : List (Visit T U)) (result : Result Progress Error)
     → r ≡ q → place ≡ start → part ≡ whole → IsReportedWork r may place part 0 faithful interruptible workers (length part) old result new → IsReportedWork q may start whole 0 faithful interruptible workers (length whole) old result new
 work_kept q r may faithful interruptible workers start place whole part old new result same at of work =
     subst (λ l. IsReportedWork q may start l 0 faithful interruptible workers (length l) old result new) of

@@ -2,6 +2,7 @@
 -- that of interfaces which are modelled.
 use Rattle.std.proofs.Common.{◌≡◌, sym, ◌∙◌, subst, ℕ, ◌+◌, ◌-◌, ◌<◌, ◌≤◌, ◌^◌, ◌⊎◌, inl, inr, Bool, List, length, slice_index_or, All, arith, Result, Ok, Err}
 use Rattle.std.proofs.Math.Logic.{∥∥₁_map, ∥∥₁_map₂}
+use Rattle.std.proofs.lemmas.Grind.{merely}
 use Rattle.std.proofs.lemmas.Bool.{cases_lt}
 use Rattle.std.specs.declared.ops.Range.{Range}
 use Rattle.status_index.specs.declared.state.State.{State}
@@ -23,26 +24,20 @@ use Rattle.status_call.specs.Visits.{Visit, IsFaithful}
 use Rattle.status_call.specs.WorkInOrder.{IsShortage, IsReportedWork, IsWorkStopped}
 use Rattle.status_call.proofs.Stretch.{All-part_at, All-part_from}
 use Rattle.status_call.proofs.StatusProof.{status_ok, status_err}
-use Rattle.status_call.proofs.ViewLemmas.{fault_along, joined, joined_front, joined_back, specified_along}
+use Rattle.status_call.proofs.ViewLemmas.{allowed_along, fault_along, joined, joined_front, joined_back, specified_along}
 
-module _ {T U : Type 0} (q : Query T U) (may : Allows T U) where
-  -- The views of a query are also those of the query of other views.
-  seen_again : (views : Views T U) (start : ℕ) (es : List IndexEntry) (from at : ℕ) (findings : List (Finding T U)) (t : Totals) → IsWorkSeen q may start es from at findings t → IsWorkSeen (as_seen q views) may start es from at findings t
-  seen_again views start es from at findings t h = record { views = h.views; allowed = h.allowed; specified = h.specified }
-
-  fault_again : (views : Views T U) (es : List IndexEntry) (at : ℕ) (x : Error) → IsFaultSeen q may es at x → IsFaultSeen (as_seen q views) may es at x
-  fault_again views es at x h = record { views = h.views; allowed = h.allowed; fault = h.fault }
-
-  module _ (free : Views T U) (freely : (e : IndexEntry) → may e (free e)) (start : ℕ) (es : List IndexEntry) (at : ℕ) (findings : List (Finding T U)) (t : Totals) (done : IsDone q may start es 0 at findings t) (seen : IsWorkSeen q may start es 0 at findings t) where
+module _ {T U : Type 0} (q : Query T U) (may : Allows U) where
+  module _ (free : Views U) (freely : (e : IndexEntry) → may e (free e)) (start : ℕ) (es : List IndexEntry) (at : ℕ) (findings : List (Finding T U)) (t : Totals) (done : IsDone q may start es 0 at findings t) (seen : IsWorkSeen q may start es 0 at findings t) where
     -- The views of the entries that are done, and other views of the rest.
-    abbrev filled : Views T U → Views T U
+    abbrev filled : Views U → Views U
     filled rest = joined es done.index at seen.views rest
 
     -- By these views the work is done as specified.
-    done_filled : (rest : Views T U) → IsDone (as_seen q (filled rest)) may start es 0 at findings t
+    done_filled : (rest : Views U) → IsDone (as_seen q (filled rest)) may start es 0 at findings t
     done_filled rest =
         let agree : All (λ e. seen.views e ≡ filled rest e) (part_of es 0 at) =
         All-part_from es 0 at (λ e. seen.views e ≡ filled rest e) (λ k d l m o. sym (joined_front es done.index at seen.views rest k d m o)) in
+        let specified = specified_along q seen.views (filled rest) start es 0 at findings t agree seen.specified in
         record {
           index = done.index;
           low = done.low;
@@ -50,21 +45,21 @@ module _ {T U : Type 0} (q : Query T U) (may : Allows T U) where
           few = done.few;
           placed = done.placed;
           ascending = done.ascending;
-          specified = λ _. specified_along q seen.views (filled rest) start es 0 at findings t agree seen.specified;
-          seen = ∥∥₁_map done.seen (seen_again (filled rest) start es 0 at findings t);
+          specified = λ _. specified;
+          seen = merely (record { views = filled rest; allowed = allowed_along may seen.views (filled rest) (part_of es 0 at) agree seen.allowed; specified = specified });
         }
 
-    allowed_front : (rest : Views T U) (k : ℕ) (d : IndexEntry) → k < at → k < length es → may (slice_index_or es k d) (filled rest (slice_index_or es k d))
+    allowed_front : (rest : Views U) (k : ℕ) (d : IndexEntry) → k < at → k < length es → may (slice_index_or es k d) (filled rest (slice_index_or es k d))
     allowed_front rest k d l m =
         let e = slice_index_or es k d in
-        let P : View T U → Type 0 = λ v. may e v in
+        let P : View U → Type 0 = λ v. may e v in
         let own = All-part_at es 0 at (λ e. may e (seen.views e)) seen.allowed k d (omega arith) l m in
         subst P (sym (joined_front es done.index at seen.views rest k d l m)) own
 
-    allowed_back : (rest : Views T U) (k : ℕ) (d : IndexEntry) → at ≤ k → k < length es → may (slice_index_or es k d) (rest (slice_index_or es k d)) → may (slice_index_or es k d) (filled rest (slice_index_or es k d))
+    allowed_back : (rest : Views U) (k : ℕ) (d : IndexEntry) → at ≤ k → k < length es → may (slice_index_or es k d) (rest (slice_index_or es k d)) → may (slice_index_or es k d) (filled rest (slice_index_or es k d))
     allowed_back rest k d l m own =
         let e = slice_index_or es k d in
-        let P : View T U → Type 0 = λ v. may e v in
+        let P : View U → Type 0 = λ v. may e v in
         subst P (sym (joined_back es done.index at seen.views rest k d l m)) own
 
     -- What wasn't reached has any view.
@@ -76,7 +71,7 @@ module _ {T U : Type 0} (q : Query T U) (may : Allows T U) where
 
     module _ (x : Error) (inside : at < length es) (fault : IsFaultSeen q may es at x) where
       -- The view of the entry that has the fault, and any views of those after it.
-      abbrev behind : Views T U
+      abbrev behind : Views U
       behind = joined es done.index (at + 1) fault.views free
 
       fault_allowed : AllAllowed may es (filled behind)
@@ -88,23 +83,22 @@ module _ {T U : Type 0} (q : Query T U) (may : Allows T U) where
           behind_allowed : (k : ℕ) (d : IndexEntry) → at ≤ k → k < length es → may (slice_index_or es k d) (behind (slice_index_or es k d))
           behind_allowed k d back m = elim (cases_lt k (at + 1)) [
             | inl here ↦
-                let P : View T U → Type 0 = λ v. may (slice_index_or es k d) v in
+                let P : View U → Type 0 = λ v. may (slice_index_or es k d) v in
                 let same : at ≡ k = omega arith in
                 let own : may (slice_index_or es k d) (fault.views (slice_index_or es k d)) = rw (← same) (fault.allowed d) in
                 subst P (sym (joined_front es done.index (at + 1) fault.views free k d here m)) own
             | inr far ↦
-                let P : View T U → Type 0 = λ v. may (slice_index_or es k d) v in
+                let P : View U → Type 0 = λ v. may (slice_index_or es k d) v in
                 subst P (sym (joined_back es done.index (at + 1) fault.views free k d far m)) (freely (slice_index_or es k d))
           ]
 
-      fault_filled : IsFaulty q may es at x → IsFaulty (as_seen q (filled behind)) may es at x
-      fault_filled h = record {
-        specified = λ _. fault_along q fault.views (filled behind) es at x (λ d.
-            sym (joined_back es done.index at seen.views behind at d (omega arith) inside ∙ joined_front es done.index (at + 1) fault.views free at d (omega arith) inside)) fault.fault;
-        seen = ∥∥₁_map h.seen (fault_again (filled behind) es at x);
-      }
+      fault_filled : IsFaulty (as_seen q (filled behind)) may es at x
+      fault_filled =
+          let here = fault_along q fault.views (filled behind) es at x (λ d.
+          sym (joined_back es done.index at seen.views behind at d (omega arith) inside ∙ joined_front es done.index (at + 1) fault.views free at d (omega arith) inside)) fault.fault in
+          record { specified = λ _. here; seen = merely (record { views = filled behind; allowed = λ d. fault_allowed at d inside; fault = here }) }
 
-module _ {T U : Type 0} (q : Query T U) (may : Allows T U) (free : Views T U) (freely : (e : IndexEntry) → may e (free e)) (index : State) (has_flag : Bool) (old new : List (Visit T U)) where
+module _ {T U : Type 0} (q : Query T U) (may : Allows U) (free : Views U) (freely : (e : IndexEntry) → may e (free e)) (index : State) (has_flag : Bool) (old new : List (Visit T U)) where
   abbrev es : List IndexEntry
   es = considered_entries q index
 
@@ -145,7 +139,7 @@ module _ {T U : Type 0} (q : Query T U) (may : Allows T U) (free : Views T U) (f
     stop = work.ended
 
     -- The work that ended in the same way by other views.
-    stopped : (views : Views T U) → AllAllowed may es views → IsDone (as_seen q views) may start es 0 stop.place stop.found stop.totals
+    stopped : (views : Views U) → AllAllowed may es views → IsDone (as_seen q views) may start es 0 stop.place stop.found stop.totals
         → ((work.reported ≡ stop.found) × (stop.place < length es) × IsFaulty (as_seen q views) may es stop.place x) ⊎ (IsShortage workers x × IsBeginning work.reported stop.found)
         → IsStatusSeen q may index old (Err x) new
     stopped views allowed done by = record {
@@ -173,7 +167,7 @@ module _ {T U : Type 0} (q : Query T U) (may : Allows T U) (free : Views T U) (f
         let views = filled q may free freely start es stop.place stop.found stop.totals stop.done seen rest in
         stopped views (fault_allowed q may free freely start es stop.place stop.found stop.totals stop.done seen x h.1 fault)
         (done_filled q may free freely start es stop.place stop.found stop.totals stop.done seen rest)
-        (inl (h.0, h.1, fault_filled q may free freely start es stop.place stop.found stop.totals stop.done seen x h.1 fault h.2))
+        (inl (h.0, h.1, fault_filled q may free freely start es stop.place stop.found stop.totals stop.done seen x h.1 fault))
 
     by_either : ((work.reported ≡ stop.found) × (stop.place < length es) × IsFaulty q may es stop.place x) ⊎ (IsShortage workers x × IsBeginning work.reported stop.found)
         → ∥ IsStatusSeen q may index old (Err x) new ∥₁
@@ -184,7 +178,7 @@ module _ {T U : Type 0} (q : Query T U) (may : Allows T U) (free : Views T U) (f
     seen_err = by_either stop.by
 
 -- The same for an equal query, and by what more is allowed.
-pub seen_along : {T U : Type 0} (q r : Query T U) (less may : Allows T U) → r ≡ q → SeesWithin less may → (index : State) (old : List (Visit T U)) (result : Result Outcome Error) (new : List (Visit T U)) → IsStatusSeen r less index old result new → IsStatusSeen q may index old result new
+pub seen_along : {T U : Type 0} (q r : Query T U) (less may : Allows U) → r ≡ q → SeesWithin less may → (index : State) (old : List (Visit T U)) (result : Result Outcome Error) (new : List (Visit T U)) → IsStatusSeen r less index old result new → IsStatusSeen q may index old result new
 seen_along q r less may same within index old result new h =
     let P : Query _ _ → Type 0 = λ x. IsStatusSeen x may index old result new in
     subst P same (record {

@@ -140,7 +140,7 @@ module _ (es : List IndexEntry) (index : IsIndex es) (i : ℕ) (x : IndexEntry) 
             (λ _. read ∙ ap (plus_reads no_reads) (sym (conflict_reads q es x first kept zero)))
 
   -- The steps, by the models and by a view of each entry. An entry that isn't compared may have any view.
-  module _ {T U : Type 0} (q : Query T U) (may : Allows T U) (free : Views T U) (freely : (e : IndexEntry) → may e (free e)) (fresh : IsFresh q (take i es) (drop i es)) where
+  module _ {T U : Type 0} (q : Query T U) (may : Allows U) (free : Views U) (freely : (e : IndexEntry) → may e (free e)) (fresh : IsFresh q (take i es) (drop i es)) where
     abbrev unseen : Query T U
     unseen = as_seen q free
 

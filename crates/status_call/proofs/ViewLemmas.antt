@@ -15,6 +15,8 @@ use Rattle.status_call.specs.declared.index_as_worktree.counts.Totals.{Totals}
 use Rattle.status_call.specs.declared.index_as_worktree.types.EntryStatus.{EntryStatus}
 use Rattle.status_call.specs.declared.index_as_worktree.types.Finding.{Finding}
 use Rattle.status_call.specs.Considered.{same_path}
+use Rattle.status_call.specs.EntrySights.{IsViewAllowed}
+use Rattle.status_call.specs.MayReturn.{MayReturn, ReturnsWithin}
 use Rattle.status_call.specs.Counts.{calls_lstat, counts_in, is_looked_at, is_racy_case, is_update, reads_in, reads_of}
 use Rattle.status_call.specs.Pieces.{IsAsSpecified, IsFaultAt}
 use Rattle.status_call.specs.Query.{Query}
@@ -40,9 +42,9 @@ module _ (es : List IndexEntry) (index : IsIndex es) where
         | inr other ↦ and_left _ _ other
       ]
 
-  module _ {T U : Type 0} (n : ℕ) (front back : Views T U) where
+  module _ {U : Type 0} (n : ℕ) (front back : Views U) where
     -- The views of the first n entries, and those of the others.
-    abbrev pub joined : Views T U
+    abbrev pub joined : Views U
     joined e = if list_any (λ d. same_place d e) (take n es) then front e else back e
 
     abbrev at : ℕ → IndexEntry → IndexEntry
@@ -67,11 +69,24 @@ module _ (es : List IndexEntry) (index : IsIndex es) where
             let P : IndexEntry → Type 0 = λ e. same_place (at i f) e ≡ false in
             subst P (get_or_default es k f d inside) (apart i k f (omega arith) inside)
 
+-- A view by which less may be returned is allowed if more may be.
+pub allowed_within : {U : Type 0} {less more : MayReturn U} (e : IndexEntry) (view : View U) (fscache : Bool) → ReturnsWithin less more → IsViewAllowed less fscache e view → IsViewAllowed more fscache e view
+allowed_within e view fscache within h = record {
+  stats = λ path. within.stat path (view.lstat path) (h.stats path);
+  unlisted = h.unlisted;
+  content = record {
+    opened = within.opened e.path view.opened h.content.opened;
+    linked = within.linked e.path view.linked h.content.linked;
+    blob = within.found e.id view.blob h.content.blob;
+  };
+  submodule = λ there yes. within.reported e view.submodule (h.submodule there yes);
+}
+
 -- Views that agree with allowed ones are allowed.
-pub allowed_along : {T U : Type 0} (may : Allows T U) (one other : Views T U) (part : List IndexEntry) → All (λ e. one e ≡ other e) part → AllAllowed may part one → AllAllowed may part other
-allowed_along {T} {U} may one other part same h k d l =
+pub allowed_along : {U : Type 0} (may : Allows U) (one other : Views U) (part : List IndexEntry) → All (λ e. one e ≡ other e) part → AllAllowed may part one → AllAllowed may part other
+allowed_along {U} may one other part same h k d l =
     let e = slice_index_or part k d in
-    let P : View T U → Type 0 = λ v. may e v in
+    let P : View U → Type 0 = λ v. may e v in
     subst P (same k d l) (h k d l)
 
 sum_agrees : (f g : IndexEntry → ℕ) (part : List IndexEntry) → All (λ e. f e ≡ g e) part → sum_by f part ≡ sum_by g part
@@ -80,7 +95,7 @@ sum_agrees f g (e ∷ rest) h =
     omega (arith, sum_by-cons f e rest, sum_by-cons g e rest, All-head (λ x. f x ≡ g x) e rest h, sum_agrees f g rest (All-tail (λ x. f x ≡ g x) e rest h))
 
 -- Views that agree on a part of the entries give the same records, counts, reads and faults of it.
-module _ {T U : Type 0} (q : Query T U) (one other : Views T U) where
+module _ {T U : Type 0} (q : Query T U) (one other : Views U) where
   abbrev a : Query T U
   a = as_seen q one
 
@@ -92,7 +107,7 @@ module _ {T U : Type 0} (q : Query T U) (one other : Views T U) where
 
   module _ (es : List IndexEntry) where
     pub verdict_agrees : (e : IndexEntry) → one e ≡ other e → verdict a es e ≡ verdict b es e
-    verdict_agrees e same = ap (λ (v : View T U). verdict (as_seen q (λ _. v)) es e) same
+    verdict_agrees e same = ap (λ (v : View U). verdict (as_seen q (λ _. v)) es e) same
 
     records_agree : (part : List IndexEntry) → Agree part → (i : ℕ) → records_in a es i part ≡ records_in b es i part
     records_agree [] h i = refl
@@ -107,9 +122,9 @@ module _ {T U : Type 0} (q : Query T U) (one other : Views T U) where
         ∙ ap (cons_option (fault_by (verdict b es e))) (faults_agree rest (All-tail (λ x. one x ≡ other x) e rest h))
 
     -- A number of each entry, by its view.
-    by_view : (f : Query T U → IndexEntry → ℕ) → ((e : IndexEntry) (v : Views T U) → f (as_seen q v) e ≡ f (as_seen q (λ _. v e)) e) → (part : List IndexEntry) → Agree part → sum_by (f a) part ≡ sum_by (f b) part
+    by_view : (f : Query T U → IndexEntry → ℕ) → ((e : IndexEntry) (v : Views U) → f (as_seen q v) e ≡ f (as_seen q (λ _. v e)) e) → (part : List IndexEntry) → Agree part → sum_by (f a) part ≡ sum_by (f b) part
     by_view f own part h =
-        sum_agrees (f a) (f b) part (All-weaker (λ e. one e ≡ other e) (λ e. f a e ≡ f b e) (λ e same. own e one ∙ ap (λ (v : View T U). f (as_seen q (λ _. v)) e) same ∙ sym (own e other)) part h)
+        sum_agrees (f a) (f b) part (All-weaker (λ e. one e ≡ other e) (λ e. f a e ≡ f b e) (λ e same. own e one ∙ ap (λ (v : View U). f (as_seen q (λ _. v)) e) same ∙ sym (own e other)) part h)
 
     counts_agree : (part : List IndexEntry) → Agree part → counts_in a es part ≡ counts_in b es part
     counts_agree part h =

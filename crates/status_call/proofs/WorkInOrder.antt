@@ -30,9 +30,9 @@ none_of (Some x) h = cc
 true_or_false : (b : Bool) → b ≡ true → b ≡ false → ⊥
 true_or_false b h k = cc
 
-module _ {T U : Type 0} (q : Query T U) (may : Allows T U) (start : ℕ) (es : List IndexEntry) (from : ℕ) (faithful : Visit T U → Type 0) where
+module _ {T U : Type 0} (q : Query T U) (may : Allows U) (start : ℕ) (es : List IndexEntry) (from : ℕ) (faithful : Visit T U → Type 0) where
   -- Nothing is done yet.
-  pub way_none : (free : Views T U) → IsIndex es → (old : List (Visit T U)) → from ≤ length es → IsWorkSoFar q may start es from faithful from no_totals old old
+  pub way_none : (free : Views U) → IsIndex es → (old : List (Visit T U)) → from ≤ length es → IsWorkSoFar q may start es from faithful from no_totals old old
   way_none free index old inside = record {
     reported = [];
     fed = reports_none faithful old;
@@ -54,7 +54,7 @@ module _ {T U : Type 0} (q : Query T U) (may : Allows T U) (start : ℕ) (es : L
   }
 
   -- A round that reported nothing.
-  pub no_work : (free : Views T U) → IsIndex es → (interruptible : Bool) (workers to : ℕ) (e : Error) (old : List (Visit T U)) → from ≤ length es → IsShortage workers e → IsReportedWork q may start es from faithful interruptible workers to old (Err e) old
+  pub no_work : (free : Views U) → IsIndex es → (interruptible : Bool) (workers to : ℕ) (e : Error) (old : List (Visit T U)) → from ≤ length es → IsShortage workers e → IsReportedWork q may start es from faithful interruptible workers to old (Err e) old
   no_work free index interruptible workers to e old inside h =
       way_short interruptible workers from to no_totals e old old h (way_none free index old inside)
 
@@ -144,7 +144,7 @@ module _ {T U : Type 0} (q : Query T U) (may : Allows T U) (start : ℕ) (es : L
     stop_piece new x (inl h) = stop_fault new x h.0 h.1
     stop_piece new x (inr h) = subst (λ (e : Error). IsReportedWork q may start es from faithful interruptible workers end old (Err e) new) (sym h.0) (stop_memory new h.1 h.2)
 
-module _ {T U : Type 0} (q : Query T U) (may : Allows T U) (start : ℕ) (es : List IndexEntry) (faithful : Visit T U → Type 0) (interruptible : Bool) (workers most from at to end : ℕ) (totals : Totals) (old now new : List (Visit T U)) (way : IsWorkSoFar q may start es from faithful at totals old now) where
+module _ {T U : Type 0} (q : Query T U) (may : Allows U) (start : ℕ) (es : List IndexEntry) (faithful : Visit T U → Type 0) (interruptible : Bool) (workers most from at to end : ℕ) (totals : Totals) (old now new : List (Visit T U)) (way : IsWorkSoFar q may start es from faithful at totals old now) where
   abbrev Round : Result Progress Error → Type 0
   Round result = IsReportedWork q may start es at faithful interruptible workers to now result new
 
@@ -202,25 +202,25 @@ module _ {T U : Type 0} (q : Query T U) (may : Allows T U) (start : ℕ) (es : L
       }
 
 -- A round, after some of its pieces were reported.
-pub record IsMidRound {T U : Type 0} (q : Query T U) (may : Allows T U) (interruptible : Bool) (start : ℕ) (es : List IndexEntry) (faithful : Visit T U → Type 0) (from to : ℕ) (totals : Totals) (old now : List (Visit T U)) (rest : List (Piece T U)) : Type 0 where
+pub record IsMidRound {T U : Type 0} (q : Query T U) (may : Allows U) (interruptible : Bool) (start : ℕ) (es : List IndexEntry) (faithful : Visit T U → Type 0) (from to : ℕ) (totals : Totals) (old now : List (Visit T U)) (rest : List (Piece T U)) : Type 0 where
   pub at : ℕ
   pub way : IsWorkSoFar q may start es from faithful at totals old now
   pub rows : AreInRow q may interruptible start es to at rest
 
 -- The first of the pieces that are left, and those after it.
-pub row_next : {T U : Type 0} (q : Query T U) (may : Allows T U) (interruptible : Bool) (start : ℕ) (es : List IndexEntry) (to at : ℕ) (rest ps : List (Piece T U)) (p : Piece T U) → rest ≡ p ∷ ps → AreInRow q may interruptible start es to at rest
+pub row_next : {T U : Type 0} (q : Query T U) (may : Allows U) (interruptible : Bool) (start : ℕ) (es : List IndexEntry) (to at : ℕ) (rest ps : List (Piece T U)) (p : Piece T U) → rest ≡ p ∷ ps → AreInRow q may interruptible start es to at rest
     → IsInRow q may interruptible start es at p × (p.end ≡ Whole → AreInRow q may interruptible start es to p.reached ps)
 row_next q may interruptible start es to at rest ps p e h = subst (λ l. AreInRow q may interruptible start es to at l) e h
 
 -- The same work, for an equal flag and from an equal position.
-pub work_as : {T U : Type 0} (q : Query T U) (may : Allows T U) (start : ℕ) (es : List IndexEntry) (faithful : Visit T U → Type 0) (interruptible other : Bool) (workers from place to : ℕ) (old new : List (Visit T U)) (result : Result Progress Error)
+pub work_as : {T U : Type 0} (q : Query T U) (may : Allows U) (start : ℕ) (es : List IndexEntry) (faithful : Visit T U → Type 0) (interruptible other : Bool) (workers from place to : ℕ) (old new : List (Visit T U)) (result : Result Progress Error)
     → other ≡ interruptible → place ≡ from → IsReportedWork q may start es place faithful other workers to old result new → IsReportedWork q may start es from faithful interruptible workers to old result new
 work_as q may start es faithful interruptible other workers from place to old new result flag at work =
     subst (λ n. IsReportedWork q may start es n faithful interruptible workers to old result new) at
     (subst (λ b. IsReportedWork q may start es place faithful b workers to old result new) flag work)
 
 -- A piece that was walked, by an equal query and by what may be seen, is a result.
-pub result_of : {T U X : Type 0} (q r : Query T U) (may less : Allows T U) (interrupt : Option X) (start : ℕ) (es : List IndexEntry) (at to : ℕ) (p : Piece T U) → r ≡ q → SeesWithin less may → IsPiece r less start es at to p
+pub result_of : {T U X : Type 0} (q r : Query T U) (may less : Allows U) (interrupt : Option X) (start : ℕ) (es : List IndexEntry) (at to : ℕ) (p : Piece T U) → r ≡ q → SeesWithin less may → IsPiece r less start es at to p
     → (interrupt ≡ None → IsUninterrupted p.end) → IsResult q may (is_some interrupt) start es at to p
 result_of q r may less interrupt start es at to p same within piece uninterrupted = record {
   piece = piece_within q less may within es start at to p (subst (λ x. IsPiece x less start es at to p) same piece);
@@ -228,7 +228,7 @@ result_of q r may less interrupt start es at to p same within piece uninterrupte
 }
 
 -- The same in a row.
-pub row_of : {T U X : Type 0} (q r : Query T U) (may less : Allows T U) (interrupt : Option X) (start : ℕ) (es : List IndexEntry) (at to : ℕ) (p : Piece T U) → r ≡ q → SeesWithin less may → to ≤ length es → IsPiece r less start es at to p
+pub row_of : {T U X : Type 0} (q r : Query T U) (may less : Allows U) (interrupt : Option X) (start : ℕ) (es : List IndexEntry) (at to : ℕ) (p : Piece T U) → r ≡ q → SeesWithin less may → to ≤ length es → IsPiece r less start es at to p
     → (interrupt ≡ None → IsUninterrupted p.end) → IsInRow q may (is_some interrupt) start es at p
 row_of q r may less interrupt start es at to p same within inside piece uninterrupted = record {
   to = to;
@@ -237,5 +237,5 @@ row_of q r may less interrupt start es at to p same within inside piece uninterr
 }
 
 -- A whole piece reached its end.
-pub whole_reaches : {T U : Type 0} (q : Query T U) (may : Allows T U) (start : ℕ) (es : List IndexEntry) (from to : ℕ) (p : Piece T U) → IsPiece q may start es from to p → p.end ≡ Whole → p.reached ≡ to
+pub whole_reaches : {T U : Type 0} (q : Query T U) (may : Allows U) (start : ℕ) (es : List IndexEntry) (from to : ℕ) (p : Piece T U) → IsPiece q may start es from to p → p.end ≡ Whole → p.reached ≡ to
 whole_reaches q may start es from to p piece whole = subst (λ (e : End). IsThrough q may es to p.reached e) whole piece.through

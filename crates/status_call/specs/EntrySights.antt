@@ -1,28 +1,46 @@
 -- One entry over any worktree: its look-up, the comparison of its content, and its submodule.
-use Rattle.std.specs.Prelude.{◌≡◌, ℕ, Bool, true, false, List, [], Option, Some, None, Result, Err}
-use Rattle.status_index.specs.declared.fault.Fault.TheVariants as faults
+use Rattle.std.specs.Prelude.{◌≡◌, ◌⊎◌, ℕ, Bool, true, false, IsTrue, List, [], Option, Some, None, unwrap_or, Result, Err}
+use Rattle.status_index.specs.Content.{Content}
 use Rattle.status_index.specs.declared.stat.Metadata.{Metadata}
 use Rattle.status_index.specs.declared.stat.Stat.{Stat}
 use Rattle.status_index.specs.Entries.{IndexEntry}
-use Rattle.status_base.specs.Conversions.{same}
-use Rattle.status_base.specs.declared.worktree.objects.FindError.TheVariants as finds
+use Rattle.status_index.specs.Mode.{is_submodule}
+use Rattle.status_base.specs.Conversions.{Conversion}
+use Rattle.status_base.specs.LinkCheck.{link_check}
 use Rattle.status_base.specs.Sights.{MayStat, Stats, AreAllowed}
 use Rattle.status_compare.specs.declared.error.Error.{Error}
-use Rattle.status_compare.specs.Reading.{IsSpecified}
+use Rattle.status_compare.specs.declared.error.Error.TheVariants.{Memory}
+use Rattle.status_compare.specs.declared.read_data.Reads.{Reads}
+use Rattle.status_compare.specs.Reading.{IsSpecified, Readings}
 use Rattle.status_compare.specs.Reads.{no_reads}
+use Rattle.status_call.specs.declared.index_as_worktree.content.Comparison.{Comparison}
 use Rattle.status_call.specs.declared.index_as_worktree.inputs.Settings.{Settings}
 use Rattle.status_call.specs.declared.index_as_worktree.lookup.Look.{Look}
 use Rattle.status_call.specs.declared.index_as_worktree.step.Decided.{Decided}
-use Rattle.status_call.specs.EntryParts.{IsCaseDecided, IsContentDecided, IsLookAt, IsNodeDecided}
+use Rattle.status_call.specs.EntryParts.{IsCaseDecided, IsContentCompared, IsContentDecided, IsLookAt, IsNodeDecided}
 use Rattle.status_call.specs.declared.index_as_worktree.types.EntryStatus.{EntryStatus}
+use Rattle.status_call.specs.MayReturn.{MayReturn}
 use Rattle.status_call.specs.Query.{Query}
-use Rattle.status_call.specs.Status.{answer, directory_case, in_submodule}
+use Rattle.status_call.specs.Status.{Found, answer, cached_or, directory, directory_case, found_by, in_submodule}
 use Rattle.status_call.specs.Views.{View}
 
--- A view of an entry is allowed if `lstat` may return each of its results, and no listing is used unless that is asked for.
-pub record IsViewAllowed {T U : Type 0} (may : MayStat) (fscache : Bool) (view : View T U) : Type 0 where
-  pub stats : AreAllowed may view.lstat
+-- The content, the target and the blob in a view of an entry are ones that may be returned.
+pub record IsContentAllowed {U : Type 0} (may : MayReturn U) (e : IndexEntry) (view : View U) : Type 0 where
+  pub opened : may.opened e.path view.opened
+  pub linked : may.linked e.path view.linked
+  pub blob : may.found e.id view.blob
+
+-- The node at an entry's path, by a view.
+abbrev pub node_seen : {U : Type 0} → IndexEntry → View U → Found
+node_seen e view = found_by (link_check view.lstat e.path) (cached_or view.listed (view.lstat e.path))
+
+-- A view of an entry is allowed if each of its results may be returned. The submodule's has to be only if a directory is at a
+-- submodule's entry. No listing is used unless that is asked for; which nodes it may know isn't stated.
+pub record IsViewAllowed {U : Type 0} (may : MayReturn U) (fscache : Bool) (e : IndexEntry) (view : View U) : Type 0 where
+  pub stats : AreAllowed may.stat view.lstat
   pub unlisted : fscache ≡ false → view.listed ≡ None
+  pub content : IsContentAllowed may e view
+  pub submodule : node_seen e view ≡ directory → IsTrue (is_submodule e.mode) → may.reported e view.submodule
 
 -- The look-up of a path is the specified one for results that `lstat` may return, and for a node that a listing may know.
 pub record IsLookSeen (may : MayStat) (fscache : Bool) (path : List ℕ) (result : Result Look Error) : Type 0 where
@@ -32,44 +50,63 @@ pub record IsLookSeen (may : MayStat) (fscache : Bool) (path : List ℕ) (result
   pub unlisted : fscache ≡ false → listed ≡ None
   pub look : IsLookAt lstat listed path result
 
--- The status of a submodule's entry is that of what the submodule said.
-pub record IsSubmoduleSeen {T U : Type 0} (path : List ℕ) (result : Result (Option (EntryStatus T U)) Error) : Type 0 where
+-- The status of a submodule's entry is that of what the submodule may report.
+pub record IsSaid {T U : Type 0} (may : Result (Option U) (List ℕ) → Type 0) (path : List ℕ) (result : Result (Option (EntryStatus T U)) Error) : Type 0 where
   pub said : Result (Option U) (List ℕ)
+  pub allowed : may said
   pub status : IsSpecified (answer {T = T} path (in_submodule said)) result
 
--- The decision of an entry whose path has a directory is the specified one for what the submodule said.
-pub record IsDirectorySeen {T U : Type 0} (e : IndexEntry) (result : Result (Decided T U) Error) : Type 0 where
+-- The same, or memory ran out.
+abbrev pub IsSubmoduleSeen : {T U : Type 0} → (Result (Option U) (List ℕ) → Type 0) → List ℕ → Result (Option (EntryStatus T U)) Error → Type 0
+IsSubmoduleSeen may path result = (result ≡ Err Memory) ⊎ IsSaid may path result
+
+-- The decision of an entry whose path has a directory is the specified one for what its submodule may report, if it is a submodule's.
+pub record IsDirectorySaid {T U : Type 0} (may : Result (Option U) (List ℕ) → Type 0) (e : IndexEntry) (result : Result (Decided T U) Error) : Type 0 where
   pub said : Result (Option U) (List ℕ)
+  pub allowed : IsTrue (is_submodule e.mode) → may said
   pub decided : IsCaseDecided e.path (directory_case {T = T} e said) false (Some no_reads) result
 
--- A query that has these settings, and of the rest only what was seen of an entry.
-abbrev pub viewed : {T U : Type 0} → Settings → View T U → Query T U
-viewed settings view = record {
+-- The same, or memory ran out.
+abbrev pub IsDirectorySeen : {T U : Type 0} → (Result (Option U) (List ℕ) → Type 0) → IndexEntry → Result (Decided T U) Error → Type 0
+IsDirectorySeen may e result = (result ≡ Err Memory) ⊎ IsDirectorySaid may e result
+
+-- A query that has these settings, this conversion and this comparer, and of the rest only what was seen of an entry.
+abbrev pub viewed : {T U : Type 0} → Settings → (Content → List ℕ → Conversion) → (IndexEntry → ℕ → Readings → Result (Option T) Error) → (IndexEntry → ℕ → Readings → Reads → Option Reads) → View U → Query T U
+viewed settings conversion answers counts view = record {
   modelled = true;
   stat_options = settings.stat;
   symlink = settings.fs.symlink;
   executable_bit = settings.fs.executable_bit;
   timestamp = settings.timestamp;
   lstat = λ _. view.lstat;
-  opened = λ _. Err faults.Memory;
-  linked = λ _. Err faults.Memory;
+  opened = λ _. view.opened;
+  linked = λ _. view.linked;
   cached = λ _. view.listed;
   prefix = [];
   included = λ _ _. true;
-  conversion = λ _ _. same;
-  blob = λ _. Err finds.Memory;
+  conversion = conversion;
+  blob = λ _. view.blob;
   submodule = λ _. view.submodule;
-  compared = λ _ _ _. view.compared;
-  counted = λ _ _ _ _. Some view.reads;
+  compared = answers;
+  counted = λ e len readings before. Some (unwrap_or (counts e len readings before) view.reads);
 }
 
-module _ {T U : Type 0} (settings : Settings) (e : IndexEntry) (n : Metadata) where
-  -- The decision of an entry whose path has this node is the specified one for what the comparer said.
+module _ {T U : Type 0} (may : MayReturn U) (settings : Settings) (conversion : Content → List ℕ → Conversion) (answers : IndexEntry → ℕ → Readings → Result (Option T) Error)
+    (counts : IndexEntry → ℕ → Readings → Reads → Option Reads) (e : IndexEntry) (n : Metadata) where
+  -- The comparison of an entry's content with its node's is the specified one for contents that may be returned.
+  pub record IsComparisonViewed (result : Result (Comparison T) Error) : Type 0 where
+    pub view : View U
+    pub allowed : IsContentAllowed may e view
+    pub compared : IsContentCompared (viewed settings conversion answers counts view) e n result
+
+  -- The decision of an entry whose path has this node is.
   pub record IsNodeSeen (result : Result (Decided T U) Error) : Type 0 where
-    pub view : View T U
-    pub decided : IsNodeDecided (viewed settings view) e n result
+    pub view : View U
+    pub allowed : IsContentAllowed may e view
+    pub decided : IsNodeDecided (viewed settings conversion answers counts view) e n result
 
   -- The same if the node has the entry's type and this stat.
   pub record IsContentSeen (s : Stat) (executable_changed : Bool) (result : Result (Decided T U) Error) : Type 0 where
-    pub view : View T U
-    pub decided : IsContentDecided (viewed settings view) e n s executable_changed result
+    pub view : View U
+    pub allowed : IsContentAllowed may e view
+    pub decided : IsContentDecided (viewed settings conversion answers counts view) e n s executable_changed result

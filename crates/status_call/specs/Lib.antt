@@ -11,6 +11,7 @@ pub mod Inputs
 pub mod Laws
 pub mod ListedStatus
 pub mod LookUps
+pub mod MayReturn
 pub mod Modelled
 pub mod PieceReporting
 pub mod Pieces
@@ -26,6 +27,7 @@ pub mod StatusTable
 pub mod StatusSeen
 pub mod StatusTheorem
 pub mod Steps
+pub mod ViewLaws
 pub mod Views
 pub mod Visits
 pub mod WorkInOrder

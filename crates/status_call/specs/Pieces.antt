@@ -41,17 +41,17 @@ module _ {T U : Type 0} (q : Query T U) where
   IsFaultAt es at x = ((d : IndexEntry) → verdict q es (slice_index_or es at d) ≡ Err x)
       ⊎ (x ≡ Memory)
 
-module _ {T U : Type 0} (q : Query T U) (may : Allows T U) where
+module _ {T U : Type 0} (q : Query T U) (may : Allows U) where
   -- The records and counts are those of the definition for allowed views of these entries.
   pub record IsWorkSeen (start : ℕ) (es : List IndexEntry) (from at : ℕ)
       (findings : List (Finding T U)) (t : Totals) : Type 0 where
-    pub views : Views T U
+    pub views : Views U
     pub allowed : AllAllowed may (part_of es from at) views
     pub specified : IsAsSpecified (as_seen q views) start es from at findings t
 
   -- The error is that of the definition for an allowed view of the entry at a position, or memory ran out.
   pub record IsFaultSeen (es : List IndexEntry) (at : ℕ) (x : Error) : Type 0 where
-    pub views : Views T U
+    pub views : Views U
     pub allowed : (d : IndexEntry) → may (slice_index_or es at d) (views (slice_index_or es at d))
     pub fault : IsFaultAt (as_seen q views) es at x
 

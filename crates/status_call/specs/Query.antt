@@ -3,7 +3,6 @@ use Rattle.std.specs.Prelude.{ℕ, Bool, List, Option, Result}
 use Rattle.status_index.specs.Content.{Content}
 use Rattle.status_index.specs.Entries.{IndexEntry}
 use Rattle.status_index.specs.declared.fault.Fault.{Fault}
-use Rattle.status_index.specs.declared.id.ObjectId.{ObjectId}
 use Rattle.status_index.specs.declared.stat.Metadata.{Metadata}
 use Rattle.status_index.specs.declared.stat.Moment.{Moment}
 use Rattle.status_index.specs.declared.stat.Options.{Options}
@@ -23,18 +22,19 @@ pub record Query (T U : Type 0) : Type 0 where
   pub executable_bit : Bool
   -- The time at which the index was written.
   pub timestamp : Moment
-  -- The worktree. The result of `lstat` at a path may depend on the entry for which it is called.
+  -- The worktree: `lstat` at a path, and opening the file and reading the link at an entry's path. Each result may depend on the
+  -- entry for which the call is made.
   pub lstat : IndexEntry → List ℕ → Result Metadata Fault
-  pub opened : List ℕ → Result Content Fault
-  pub linked : List ℕ → Result (List ℕ) Fault
+  pub opened : IndexEntry → Result Content Fault
+  pub linked : IndexEntry → Result (List ℕ) Fault
   -- The node that listings of directories know at an entry's path; none if listings aren't used.
   pub cached : IndexEntry → Option Metadata
   -- The pathspec: the common prefix, and whether a path is included, by whether it is a directory's.
   pub prefix : List ℕ
   pub included : List ℕ → Bool → Bool
-  -- The filter, the object database, the submodules.
+  -- The filter, the entry's blob, the submodules.
   pub conversion : Content → List ℕ → Conversion
-  pub blob : ObjectId → Result (List ℕ) FindError
+  pub blob : IndexEntry → Result (List ℕ) FindError
   pub submodule : IndexEntry → Result (Option U) (List ℕ)
   -- The comparer: its result, and its reads.
   pub compared : IndexEntry → ℕ → Readings → Result (Option T) Error

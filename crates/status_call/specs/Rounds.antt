@@ -42,7 +42,7 @@ is_short Whole = false
 is_short Interrupted = true
 is_short (Faulty x) = true
 
-module _ {T U : Type 0} (q : Query T U) (may : Allows T U) (interruptible : Bool) (start : ℕ) (es : List IndexEntry)
+module _ {T U : Type 0} (q : Query T U) (may : Allows U) (interruptible : Bool) (start : ℕ) (es : List IndexEntry)
   where
     -- The possible results of the piece from position `at` to position `to`.
     pub record IsResult (at to : ℕ) (p : Piece T U) : Type 0 where

@@ -15,7 +15,7 @@ abbrev pub IsFaithfulTo : {T U : Type 0} → Considered → Visit T U → Type 0
 IsFaithfulTo c = IsFaithful c.entries.now c.backing.now
 
 -- The records of the considered entries from position `from` on that were reported, and how the work ended.
-abbrev pub IsRoundsReport : {T U R : Type 0} → Query T U → Allows T U → Considered → Workers R → ℕ → ℕ → List (Visit T U)
+abbrev pub IsRoundsReport : {T U R : Type 0} → Query T U → Allows U → Considered → Workers R → ℕ → ℕ → List (Visit T U)
     → Result Progress Error → List (Visit T U) → Type 0
 IsRoundsReport q may c w from to old result new =
     IsReportedWork q may c.start (part_entries c) from (IsFaithfulTo c) (is_some w.interrupt) w.count to

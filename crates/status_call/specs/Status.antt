@@ -139,10 +139,10 @@ module _ {T U : Type 0} (q : Query T U) where
   abbrev pub reading : IndexEntry → Metadata → Reading
   reading e n =
       node_reading (reads_link q.symlink e.mode n.kind) (λ content. q.conversion content e.path)
-      n.len (q.opened e.path) (q.linked e.path)
+      n.len (q.opened e) (q.linked e)
 
   abbrev pub readings : IndexEntry → Metadata → Readings
-  readings e n = record { file = reading e n; blob = blob_reading (q.blob e.id) }
+  readings e n = record { file = reading e n; blob = blob_reading (q.blob e) }
 
   -- The case by whether the executable bit changed, the entry is trusted, and its stat is racy.
   abbrev pub case_of_content : IndexEntry → Metadata → Stat → Bool → Bool → Bool → Case T U

@@ -2,7 +2,6 @@
 -- the options and the index.
 use Rattle.std.specs.Prelude.{◌≡◌, ◌≢◌, ℕ, IsTrue, List, ◌++◌, map, Option, Some, Result, Err, IfErr}
 use Rattle.status_index.specs.declared.state.State.{State}
-use Rattle.status_base.specs.Sights.{MayStat}
 use Rattle.status_compare.specs.declared.error.Error.{Error}
 use Rattle.status_compare.specs.declared.error.Error.TheVariants.{Memory, SpawnThread}
 use Rattle.status_call.specs.declared.index_as_worktree.inputs.Settings.{Settings}
@@ -10,6 +9,7 @@ use Rattle.status_call.specs.declared.index_as_worktree.types.Options.{Options}
 use Rattle.status_call.specs.declared.index_as_worktree.types.Outcome.{Outcome}
 use Rattle.status_call.specs.EntrySights.{IsViewAllowed}
 use Rattle.status_call.specs.Inputs.{settings}
+use Rattle.status_call.specs.MayReturn.{MayReturn}
 use Rattle.status_call.specs.Query.{Query}
 use Rattle.status_call.specs.StatusSeen.{IsStatusSeen}
 use Rattle.status_call.specs.StatusTheorem.{IsFirstFault, IsStatusReport, NeverSpawns}
@@ -40,10 +40,10 @@ module _ {I T U : Type 0} (query : I → Settings → Query T U) (inputs : I) (o
       → Type 0
   IsStatus visits old result new = IsStatusReport query_of index (visits old) result (visits new)
 
-  -- The same over any worktree, by the results that its `lstat` may return.
-  abbrev pub IsStatusByAnswers : {V : Type 0} → MayStat → (V → List (Visit T U)) → V → Result Outcome Error → V → Type 0
+  -- The same over any worktree, by the results that the interfaces may return.
+  abbrev pub IsStatusByAnswers : {V : Type 0} → MayReturn U → (V → List (Visit T U)) → V → Result Outcome Error → V → Type 0
   IsStatusByAnswers may visits old result new =
-      IsStatusSeen query_of (λ _ view. IsViewAllowed may options.fscache view) index (visits old) result (visits new)
+      IsStatusSeen query_of (IsViewAllowed may options.fscache) index (visits old) result (visits new)
 
   -- With limit 1 no thread is refused, by the interfaces passed and the options.
   abbrev pub OneThreadCallSpawnsNone : Result Outcome Error → Type 0

@@ -10,8 +10,8 @@ use Rattle.status_call.specs.Visits.{Visit}
 
 -- There is an allowed view of each considered entry, and the status reports what it would report if the interfaces were modelled
 -- and returned the results of these views.
-pub record IsStatusSeen {T U : Type 0} (q : Query T U) (may : Allows T U) (index : State) (old : List (Visit T U))
+pub record IsStatusSeen {T U : Type 0} (q : Query T U) (may : Allows U) (index : State) (old : List (Visit T U))
     (result : Result Outcome Error) (new : List (Visit T U)) : Type 0 where
-  pub views : Views T U
+  pub views : Views U
   pub allowed : AllAllowed may (considered_entries q index) views
   pub report : IsStatusReport (as_seen q views) index old result new

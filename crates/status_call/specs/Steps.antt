@@ -24,10 +24,10 @@ module _ {T U : Type 0} (q : Query T U) where
     pub reads : ModelsReads q → s.totals.reads ≡ reads_in q part
     pub clear : faults_in q es part ≡ []
 
-module _ {T U : Type 0} (q : Query T U) (may : Allows T U) where
+module _ {T U : Type 0} (q : Query T U) (may : Allows U) where
   -- They have them by the definition for allowed views of these entries.
   pub record IsStepSeen (es part : List IndexEntry) (s : Step T U) : Type 0 where
-    pub views : Views T U
+    pub views : Views U
     pub allowed : AllAllowed may part views
     pub step : IsStepOf (as_seen q views) es part s
 

@@ -24,7 +24,7 @@ shortage_of refusals.Memory = Memory
 abbrev pub IsShortage : ℕ → Error → Type 0
 IsShortage workers e = (e ≡ Memory) ⊎ ((e ≡ SpawnThread) × (1 < workers))
 
-module _ {T U : Type 0} (q : Query T U) (may : Allows T U) (start : ℕ) (es : List IndexEntry) (from : ℕ) where
+module _ {T U : Type 0} (q : Query T U) (may : Allows U) (start : ℕ) (es : List IndexEntry) (from : ℕ) where
   -- The work ended: at an entry that has a fault or runs out of memory, or because it couldn't go on.
   pub record IsWorkStopped (workers : ℕ) (reported : List (Finding T U)) (e : Error) : Type 0 where
     pub place : ℕ

@@ -5,6 +5,7 @@ ghost use Rattle.status_index.specs.BlobId.{is_empty_blob};
 ghost use Rattle.status_index.specs.Stat.{stat_agrees};
 ghost use Rattle.status_compare.specs.Reads.{no_reads};
 ghost use Rattle.status_call.specs.EntryParts.{IsContentCompared, IsDecisionOf, candidate_entry};
+ghost use Rattle.status_call.specs.EntrySights.{IsComparisonViewed};
 ghost use Rattle.status_call.specs.Status.{reads_link, same_bool};
 
 use crate::index_as_worktree::inputs::{Ask, Inputs, Settings};
@@ -59,6 +60,9 @@ pub(crate) fn compare_node<
 ) -> Result<Comparison<C::Output>, Error>
     ensures compared { IsContentCompared
         (⟦<Inputs<'w, W, C, S, O, P, T, L> as Ask>⟧.query inputs.old settings)
+        (candidate_entry candidate.now) candidate.now.node result }
+    ensures seen { IsComparisonViewed (⟦<Inputs<'w, W, C, S, O, P, T, L> as Ask>⟧.may_return inputs.old)
+        settings (T.conversion inputs.old.filter) (C.answer inputs.old.compare) (C.counts_after inputs.old.compare)
         (candidate_entry candidate.now) candidate.now.node result }
     ensures only { inputs.new ≡ record inputs.old { compare = inputs.new.compare } }
     ensures same { ⟦<Inputs<'w, W, C, S, O, P, T, L> as Ask>⟧.query inputs.new

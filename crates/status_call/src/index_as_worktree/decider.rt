@@ -9,6 +9,7 @@ ghost use Rattle.status_base.specs.Sights.{IsOpen};
 ghost use Rattle.status_index.specs.Entries.{entry_at};
 ghost use Rattle.status_call.specs.EntrySights.{IsContentSeen, IsDirectorySeen, IsLookSeen, IsNodeSeen};
 ghost use Rattle.status_call.specs.LookUps.{Keeps};
+ghost use Rattle.status_call.specs.MayReturn.{ReturnsWithin};
 ghost use Rattle.status_compare.specs.Reads.{no_reads};
 ghost use Rattle.status_call.specs.Status.{directory_case};
 
@@ -120,7 +121,10 @@ where
         ensures decided { let e = entry_at (bstr_bytes path.entry) entry.now in
             IsTrue (S.modelled self.old.inputs.submodule)
             → IsCaseDecided e.path (directory_case e (S.status_of self.old.inputs.submodule e)) false (Some no_reads) result }
-        ensures seen { IsDirectorySeen (entry_at (bstr_bytes path.entry) entry.now) result }
+        ensures seen { let e = entry_at (bstr_bytes path.entry) entry.now in
+            IsDirectorySeen (S.may_report self.old.inputs.submodule e) e result }
+        ensures within { ReturnsWithin (⟦<Inputs<'w, W, C, S, O, P, T, L> as Ask>⟧.may_return self.new.inputs)
+            (⟦<Inputs<'w, W, C, S, O, P, T, L> as Ask>⟧.may_return self.old.inputs) }
         ensures same { ⟦<Decider<'w, W, C, S, O, P, T, L> as Decide>⟧.query self.new
             ≡ ⟦<Decider<'w, W, C, S, O, P, T, L> as Decide>⟧.query self.old }
         ensures kept { (self.new.inputs.worktree ≡ self.old.inputs.worktree)
@@ -144,7 +148,11 @@ where
         ensures decided { IsNodeDecided
             (⟦<Decider<'w, W, C, S, O, P, T, L> as Decide>⟧.query self.old)
             (candidate_entry candidate.now) candidate.now.node result }
-        ensures seen { IsNodeSeen self.old.settings (candidate_entry candidate.now) candidate.now.node result }
+        ensures seen { IsNodeSeen (⟦<Inputs<'w, W, C, S, O, P, T, L> as Ask>⟧.may_return self.old.inputs)
+            self.old.settings (T.conversion self.old.inputs.filter) (C.answer self.old.inputs.compare) (C.counts_after self.old.inputs.compare)
+            (candidate_entry candidate.now) candidate.now.node result }
+        ensures within { ReturnsWithin (⟦<Inputs<'w, W, C, S, O, P, T, L> as Ask>⟧.may_return self.new.inputs)
+            (⟦<Inputs<'w, W, C, S, O, P, T, L> as Ask>⟧.may_return self.old.inputs) }
         ensures kept { (self.new.inputs.worktree ≡ self.old.inputs.worktree)
             × (self.new.settings ≡ self.old.settings) }
         ensures same { ⟦<Decider<'w, W, C, S, O, P, T, L> as Decide>⟧.query self.new
@@ -186,7 +194,11 @@ where
             (⟦<Decider<'w, W, C, S, O, P, T, L> as Decide>⟧.query self.old)
             (candidate_entry candidate.now) candidate.now.node stat
             executable_bit_changed result }
-        ensures seen { IsContentSeen self.old.settings (candidate_entry candidate.now) candidate.now.node stat executable_bit_changed result }
+        ensures seen { IsContentSeen (⟦<Inputs<'w, W, C, S, O, P, T, L> as Ask>⟧.may_return self.old.inputs)
+            self.old.settings (T.conversion self.old.inputs.filter) (C.answer self.old.inputs.compare) (C.counts_after self.old.inputs.compare)
+            (candidate_entry candidate.now) candidate.now.node stat executable_bit_changed result }
+        ensures within { ReturnsWithin (⟦<Inputs<'w, W, C, S, O, P, T, L> as Ask>⟧.may_return self.new.inputs)
+            (⟦<Inputs<'w, W, C, S, O, P, T, L> as Ask>⟧.may_return self.old.inputs) }
         ensures kept { (self.new.inputs.worktree ≡ self.old.inputs.worktree)
             × (self.new.settings ≡ self.old.settings) }
         ensures same { ⟦<Decider<'w, W, C, S, O, P, T, L> as Decide>⟧.query self.new
@@ -218,8 +230,8 @@ where
     C::Output: Drop,
     S::Output: Drop,
 {
-    ghost use Rattle.std.proofs.Common.{refl};
     ghost use Rattle.status_call.specs.EntrySights.{IsViewAllowed};
+    ghost use Rattle.status_call.specs.ViewLaws.{free_view};
 
     type Content = C::Output;
 
@@ -227,7 +239,7 @@ where
 
     ghost query = { λ d. ⟦<Inputs<'w, W, C, S, O, P, T, L> as Ask>⟧.query d.inputs d.settings };
 
-    ghost allows = { λ d e v. IsViewAllowed (W.may_stat d.inputs.worktree.now) d.settings.fscache v };
+    ghost allows = { λ d. IsViewAllowed (⟦<Inputs<'w, W, C, S, O, P, T, L> as Ask>⟧.may_return d.inputs) d.settings.fscache };
 
     fn common_prefix(&self) -> BStr<'_> {
         self.inputs.pathspec.common_prefix()
@@ -271,5 +283,7 @@ where
         Ok(Decider::new(self.alloc, inputs, self.settings))
     }
 
-    ghost free = { λ d e. record { stats = λ path. W.stat_may_fail d.inputs.worktree.now path; unlisted = λ _. refl } };
+    ghost free = { λ d e. free_view (⟦<Inputs<'w, W, C, S, O, P, T, L> as Ask>⟧.may_return d.inputs) d.settings.fscache e
+        (W.stat_may_fail d.inputs.worktree.now) (W.open_may_fail d.inputs.worktree.now e.path)
+        (W.link_may_fail d.inputs.worktree.now e.path) (O.find_may_fail d.inputs.objects e.id) };
 }

@@ -37,8 +37,8 @@ use std::thread::Threads;
 /// memory, after a beginning of the records was reported.
 ///
 /// Over any worktree, the records and counts are exactly those of the definition for a view of each entry: for results that
-/// its `lstat` may return, and for the results of the comparer and the submodules. If all interfaces passed are modelled,
-/// these are the specified ones.
+/// the worktree, the blobs and the submodules may return. If all interfaces passed are modelled, these are the specified
+/// ones.
 pub fn index_as_worktree<
     'index,
     'w,
@@ -72,7 +72,7 @@ where
         options index.now V.visits collector.old result collector.new }
     ensures seen { ∥ IsStatusByAnswers ⟦<Inputs<'w, W, C, S, O, P, T, L> as Ask>⟧.query
         (inputs_of worktree.entry compare submodule objects context.entry)
-        options index.now (W.may_stat worktree.now) V.visits collector.old result collector.new ∥₁ }
+        options index.now (⟦<Inputs<'w, W, C, S, O, P, T, L> as Ask>⟧.may_return (inputs_of worktree.entry compare submodule objects context.entry)) V.visits collector.old result collector.new ∥₁ }
     ensures uninterrupted { context.entry.should_interrupt ≡ None
         → IfOk result (λ o. o.interrupted ≡ false) }
     ensures alone { OneThreadCallSpawnsNone ⟦<Inputs<'w, W, C, S, O, P, T, L> as Ask>⟧.query
@@ -115,7 +115,8 @@ where
     ensures all { IsStatus ⟦<UsualInputs<'w, W, C, P> as Ask>⟧.query
         (usual worktree.entry compare pathspec) options index.now V.visits collector.old result collector.new }
     ensures seen { ∥ IsStatusByAnswers ⟦<UsualInputs<'w, W, C, P> as Ask>⟧.query
-        (usual worktree.entry compare pathspec) options index.now (W.may_stat worktree.now) V.visits collector.old result collector.new ∥₁ }
+        (usual worktree.entry compare pathspec) options index.now
+        (⟦<UsualInputs<'w, W, C, P> as Ask>⟧.may_return (usual worktree.entry compare pathspec)) V.visits collector.old result collector.new ∥₁ }
     ensures uninterrupted { IfOk result (λ o. o.interrupted ≡ false) }
     ensures alone { OneThreadCallSpawnsNone ⟦<UsualInputs<'w, W, C, P> as Ask>⟧.query
         (usual worktree.entry compare pathspec) options index.now result }
@@ -178,7 +179,7 @@ pub fn index_as_worktree_without_threads<
         options index.now V.visits collector.old result collector.new }
     ensures seen { ∥ IsStatusByAnswers ⟦<Inputs<'w, W, C, S, O, P, T, L> as Ask>⟧.query
         (inputs_of worktree.entry compare submodule objects context.entry)
-        options index.now (W.may_stat worktree.now) V.visits collector.old result collector.new ∥₁ }
+        options index.now (⟦<Inputs<'w, W, C, S, O, P, T, L> as Ask>⟧.may_return (inputs_of worktree.entry compare submodule objects context.entry)) V.visits collector.old result collector.new ∥₁ }
     ensures uninterrupted { context.entry.should_interrupt ≡ None
         → IfOk result (λ o. o.interrupted ≡ false) }
     ensures threadless { IsWithoutThread ⟦<Inputs<'w, W, C, S, O, P, T, L> as Ask>⟧.query

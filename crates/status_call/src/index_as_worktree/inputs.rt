@@ -4,6 +4,7 @@ ghost use Rattle.std.specs.Prelude.{◌≡◌, IfOk};
 ghost use Rattle.status_base.specs.ListedNodes.{known_node};
 ghost use Rattle.status_call.specs.Inputs.{inputs_of, settings};
 ghost use Rattle.status_call.specs.Modelled.{all_modelled, are_modelled};
+ghost use Rattle.status_call.specs.MayReturn.{MayReturn, ReturnsWithin};
 ghost use Rattle.status_call.specs.Query.{Query};
 ghost use Rattle.status_call.specs.declared.index_as_worktree.inputs.Settings.{Settings as StatusSettings};
 
@@ -113,6 +114,9 @@ pub trait Ask {
     /// All that a status with these settings depends on.
     ghost query: { Self → StatusSettings → Query Self.Content Self.Submodule };
 
+    /// Which results the interfaces may return, whether they are modelled or not.
+    ghost may_return: { Self → MayReturn Self.Submodule };
+
     /// Returns clones of these inputs, for another worker.
     ///
     /// # Errors
@@ -144,21 +148,32 @@ impl<
       executable_bit = settings.fs.executable_bit;
       timestamp = settings.timestamp;
       lstat = λ _. W.lstat_of i.worktree.now;
-      opened = W.open_of i.worktree.now;
-      linked = W.target_of i.worktree.now;
+      opened = λ e. W.open_of i.worktree.now e.path;
+      linked = λ e. W.target_of i.worktree.now e.path;
       cached = λ e. known_node settings.fscache (L.listing i.lister) e.path;
       prefix = P.prefix i.pathspec;
       included = P.included i.pathspec;
       conversion = λ content path. T.conversion i.filter content path;
-      blob = O.found i.objects;
+      blob = λ e. O.found i.objects e.id;
       submodule = S.status_of i.submodule;
       compared = C.answer i.compare;
       counted = C.counts_after i.compare;
     } };
 
+    ghost may_return = { λ i. record {
+      stat = W.may_stat i.worktree.now;
+      opened = W.may_open i.worktree.now;
+      linked = W.may_link i.worktree.now;
+      found = O.may_find i.objects;
+      reported = S.may_report i.submodule;
+    } };
+
     fn another(&self) -> Result<Inputs<'w, W, C, S, O, P, T, L>, AllocError>
         ensures same { IfOk result (λ other. ⟦<Inputs<'w, W, C, S, O, P, T, L> as Ask>⟧.query other
             ≡ ⟦<Inputs<'w, W, C, S, O, P, T, L> as Ask>⟧.query self.now) }
+        ensures within { IfOk result (λ other. ReturnsWithin
+            (⟦<Inputs<'w, W, C, S, O, P, T, L> as Ask>⟧.may_return other)
+            (⟦<Inputs<'w, W, C, S, O, P, T, L> as Ask>⟧.may_return self.now)) }
         ensures worktree { IfOk result (λ other. other.worktree ≡ self.now.worktree) }
     {
         Ok(Inputs {

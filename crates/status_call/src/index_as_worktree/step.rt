@@ -195,7 +195,7 @@ pub trait Decide {
     ghost query: { Self → Query Self.Content Self.Submodule };
 
     /// Which views of an entry are allowed.
-    ghost allows: { Self → IndexEntry → View Self.Content Self.Submodule → Type 0 };
+    ghost allows: { Self → IndexEntry → View Self.Submodule → Type 0 };
 
     /// Returns the prefix with which the path of each considered entry starts, if the path of any entry does.
     fn common_prefix(&self) -> BStr<'_>

@@ -1,8 +1,8 @@
 //! The status of a submodule's entry.
 
-ghost use Rattle.std.specs.Prelude.{◌≡◌, Option, Result, IsTrue};
+ghost use Rattle.std.specs.Prelude.{◌≡◌, ℕ, List, Option, Result, IsTrue};
 ghost use Rattle.bstr.specs.BStr.{bstr_bytes};
-ghost use Rattle.status_index.specs.Entries.{entry_at};
+ghost use Rattle.status_index.specs.Entries.{IndexEntry, entry_at};
 ghost use Rattle.status_compare.specs.Reading.{IsSpecified};
 ghost use Rattle.status_call.specs.EntrySights.{IsSubmoduleSeen};
 ghost use Rattle.status_call.specs.Status.{answer, in_submodule};
@@ -26,7 +26,8 @@ pub(crate) fn submodule_status<T, S: SubmoduleStatus>(
     ensures answer { let e = entry_at (bstr_bytes path.entry) entry.now in
         IsTrue (S.modelled submodule.old)
         → IsSpecified (answer {T = T} e.path (in_submodule (S.status_of submodule.old e))) result }
-    ensures seen { IsSubmoduleSeen (bstr_bytes path.entry) result }
+    ensures seen { IsSubmoduleSeen (S.may_report submodule.old (entry_at (bstr_bytes path.entry) entry.now)) (bstr_bytes path.entry) result }
+    ensures within { (e : IndexEntry) (report : Result (Option S.Output) (List ℕ)) → S.may_report submodule.new e report → S.may_report submodule.old e report }
     ensures same { S.status_of submodule.new ≡ S.status_of submodule.old }
     ensures modelled { S.modelled submodule.new ≡ S.modelled submodule.old }
 {

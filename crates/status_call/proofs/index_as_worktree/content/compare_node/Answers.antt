@@ -1,8 +1,11 @@
 use Rattle.std.proofs.Common.{rules}
+use Rattle.std.proofs.lemmas.Result.{err_from_is_err_and}
 use Rattle.bstr.specs.BStr.{bstr_bytes}
 use Rattle.status_base.specs.ListedNodes.{known_node}
 use Rattle.status_compare.specs.EntryReadings.{entry_readings}
+use Rattle.status_call.specs.EntryParts.{candidate_entry}
 use Rattle.status_call.specs.Modelled.{all_modelled, are_modelled}
+use Rattle.status_call.proofs.ContentViews.{changed_view, failed_view}
 use Rattle.status_call.proofs.EntryCases.{all_specified}
 use Rattle.status_call.proofs.index_as_worktree.content.compare_node.Goals as goal
 
@@ -28,17 +31,34 @@ returns-in_err-change-clause-same g c =
       executable_bit = settings.fs.executable_bit;
       timestamp = settings.timestamp;
       lstat = λ _. g.W.Worktree.lstat_of i.worktree.now;
-      opened = g.W.Worktree.open_of i.worktree.now;
-      linked = g.W.Worktree.target_of i.worktree.now;
+      opened = λ e. g.W.Worktree.open_of i.worktree.now e.path;
+      linked = λ e. g.W.Worktree.target_of i.worktree.now e.path;
       cached = λ e. known_node settings.fscache (g.L.Lister.listing i.lister) e.path;
       prefix = g.P.Pathspec.prefix i.pathspec;
       included = g.P.Pathspec.included i.pathspec;
       conversion = λ content path. g.T.ToGit.conversion i.filter content path;
-      blob = g.O.Find.found i.objects;
+      blob = λ e. g.O.Find.found i.objects e.id;
       submodule = g.S.SubmoduleStatus.status_of i.submodule;
       compared = c.compare_blobs.ensures.same_answer k;
       counted = c.compare_blobs.ensures.same_counts k;
     }
+
+pub returns-in_err-change-clause-seen : goal.returns-in_err-change-clause-seen
+returns-in_err-change-clause-seen g c =
+    let i = c.args.inputs.now in
+    let e = candidate_entry c.args.candidate.now in
+    let p = err_from_is_err_and c.from_residual.result c.from_residual.ensures.1 in
+    let seen = rw c.reader_of-reader.ensures at (c.in_err-change.ensures.seen e.path) in
+    rw (p.1, p.2) (failed_view _ c.args.settings (g.T.ToGit.conversion i.filter) (g.C.CompareBlobs.answer i.compare) (g.C.CompareBlobs.counts_after i.compare) e c.args.candidate.now.node
+    c.reads_link-is_link.result c.reads_link-is_link.ensures c.in_err-change.field-0.0 _ seen)
+
+pub returns-clause-seen : goal.returns-clause-seen
+returns-clause-seen g c =
+    let i = c.args.inputs.now in
+    let e = candidate_entry c.args.candidate.now in
+    let seen = rw c.reader_of-reader.ensures at (c.in_ok-change.ensures.seen e.path) in
+    changed_view _ c.args.settings (g.T.ToGit.conversion i.filter) (g.C.CompareBlobs.answer i.compare) (g.C.CompareBlobs.counts_after i.compare) e c.args.candidate.now.node
+    c.reads_link-is_link.result c.reads_link-is_link.ensures c.in_ok-change.change _ seen
 
 pub returns-clause-compared : goal.returns-clause-compared
 returns-clause-compared g c = λ modelled.
@@ -63,13 +83,13 @@ returns-clause-same g c =
       executable_bit = settings.fs.executable_bit;
       timestamp = settings.timestamp;
       lstat = λ _. g.W.Worktree.lstat_of i.worktree.now;
-      opened = g.W.Worktree.open_of i.worktree.now;
-      linked = g.W.Worktree.target_of i.worktree.now;
+      opened = λ e. g.W.Worktree.open_of i.worktree.now e.path;
+      linked = λ e. g.W.Worktree.target_of i.worktree.now e.path;
       cached = λ e. known_node settings.fscache (g.L.Lister.listing i.lister) e.path;
       prefix = g.P.Pathspec.prefix i.pathspec;
       included = g.P.Pathspec.included i.pathspec;
       conversion = λ content path. g.T.ToGit.conversion i.filter content path;
-      blob = g.O.Find.found i.objects;
+      blob = λ e. g.O.Find.found i.objects e.id;
       submodule = g.S.SubmoduleStatus.status_of i.submodule;
       compared = c.compare_blobs.ensures.same_answer k;
       counted = c.compare_blobs.ensures.same_counts k;

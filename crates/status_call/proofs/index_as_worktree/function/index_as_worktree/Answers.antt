@@ -19,4 +19,4 @@ pub returns-clause-seen : goal.returns-clause-seen
 returns-clause-seen g c =
     let is = c.new-decider.ensures in
     ∥∥₁_map c.status_by.ensures.seen (seen_along _ _ _ _ (rw (c.of-inputs.ensures, c.of-settings.ensures) at is.query)
-    (λ e v h. record { stats = rw (is.inputs, c.of-inputs.ensures) at h.stats; unlisted = rw (is.settings, c.of-settings.ensures) at h.unlisted }) _ _ _ _)
+    (λ e v h. rw (is.inputs, is.settings, c.of-inputs.ensures, c.of-settings.ensures) at h) _ _ _ _)

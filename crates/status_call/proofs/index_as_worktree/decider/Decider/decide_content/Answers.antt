@@ -1,4 +1,4 @@
-use Rattle.std.proofs.Common.{ap, inl, refl, rules, Some, Ok, Err}
+use Rattle.std.proofs.Common.{ap, refl, rules}
 use Rattle.std.proofs.lemmas.Result.{err_from_is_err_and}
 use Rattle.bstr.specs.BStr.{bstr_bytes}
 use Rattle.status_index.specs.Entries.{entry_at}
@@ -8,9 +8,9 @@ use Rattle.status_call.specs.Query.{Query}
 use Rattle.status_call.specs.declared.index_as_worktree.inputs.Settings.{Settings}
 use Rattle.status_base.specs.ListedNodes.{known_node}
 use Rattle.status_call.specs.EntrySights.{viewed}
-use Rattle.status_call.specs.Views.{View, nothing_seen}
+use Rattle.status_call.specs.Views.{nothing_seen}
 use Rattle.status_call.proofs.EntryCases.{compared_of_case}
-use Rattle.status_call.proofs.SightCases.{failed_of_case, unread_of_case}
+use Rattle.status_call.proofs.SightCases.{comparison_failed, unread_of_case}
 use Rattle.status_call.proofs.index_as_worktree.decider.Decider.decide_content.Goals as goal
 
 pub invariant_of-self : goal.invariant_of-self
@@ -41,13 +41,13 @@ returns-clause-decided g c =
       executable_bit = s.fs.executable_bit;
       timestamp = s.timestamp;
       lstat = λ _. g.W.Worktree.lstat_of i.worktree.now;
-      opened = g.W.Worktree.open_of i.worktree.now;
-      linked = g.W.Worktree.target_of i.worktree.now;
+      opened = λ e. g.W.Worktree.open_of i.worktree.now e.path;
+      linked = λ e. g.W.Worktree.target_of i.worktree.now e.path;
       cached = λ e. known_node s.fscache (g.L.Lister.listing i.lister) e.path;
       prefix = g.P.Pathspec.prefix i.pathspec;
       included = g.P.Pathspec.included i.pathspec;
       conversion = λ content path. g.T.ToGit.conversion i.filter content path;
-      blob = g.O.Find.found i.objects;
+      blob = λ e. g.O.Find.found i.objects e.id;
       submodule = g.S.SubmoduleStatus.status_of i.submodule;
       compared = g.C.CompareBlobs.answer i.compare;
       counted = g.C.CompareBlobs.counts_after i.compare;
@@ -60,28 +60,40 @@ returns-clause-decided g c =
     c.is_trusted-trusted.ensures c.is_racy-racy.ensures c.needs_comparison-compares.ensures c.if-not-compares.false answer.0 (c.decision_of.ensures e.path (counted_of q e n) answer.1)
 
 pub returns-then-not-compares-clause-seen : goal.returns-then-not-compares-clause-seen
-returns-then-not-compares-clause-seen g c = record {
-  view = nothing_seen;
-  decided = λ _. unread_of_case (viewed c.args.self.now.settings nothing_seen) (candidate_entry c.args.candidate.now) c.args.candidate.now.node c.args.stat c.args.executable_bit_changed c.is_trusted-trusted.result c.is_racy-racy.result c.needs_comparison-compares.result _ _
-      c.is_trusted-trusted.ensures c.is_racy-racy.ensures c.needs_comparison-compares.ensures c.if-not-compares.true c.unread.ensures;
-}
+returns-then-not-compares-clause-seen g c =
+    let i = c.args.self.now.inputs in
+    let e = candidate_entry c.args.candidate.now in
+    record {
+      view = nothing_seen;
+      allowed = record { opened = g.met.W.Worktree.open_may_fail i.worktree.now e.path; linked = g.met.W.Worktree.link_may_fail i.worktree.now e.path; blob = g.met.O.Find.find_may_fail i.objects e.id };
+      decided = λ _. unread_of_case (viewed c.args.self.now.settings (g.T.ToGit.conversion i.filter) (g.C.CompareBlobs.answer i.compare) (g.C.CompareBlobs.counts_after i.compare) nothing_seen) e c.args.candidate.now.node c.args.stat c.args.executable_bit_changed c.is_trusted-trusted.result c.is_racy-racy.result c.needs_comparison-compares.result _ _
+          c.is_trusted-trusted.ensures c.is_racy-racy.ensures c.needs_comparison-compares.ensures c.if-not-compares.true c.unread.ensures;
+    }
 
 pub returns-in_err-comparison-clause-seen : goal.returns-in_err-comparison-clause-seen
 returns-in_err-comparison-clause-seen g c =
+    let i = c.args.self.now.inputs in
     let failed = err_from_is_err_and c.from_residual.result c.from_residual.ensures.1 in
+    let said = c.in_err-comparison.ensures.seen in
+    let q = viewed c.args.self.now.settings (g.T.ToGit.conversion i.filter) (g.C.CompareBlobs.answer i.compare) (g.C.CompareBlobs.counts_after i.compare) said.view in
     rw (failed.1, failed.2) (record {
-      view = record nothing_seen { compared = Err c.in_err-comparison.field-0.0 };
-      decided = λ _. inl (failed_of_case (viewed c.args.self.now.settings (record nothing_seen { compared = Err c.in_err-comparison.field-0.0 })) (candidate_entry c.args.candidate.now) c.args.candidate.now.node c.args.stat c.args.executable_bit_changed c.is_trusted-trusted.result c.is_racy-racy.result c.needs_comparison-compares.result c.in_err-comparison.field-0.0
-          c.is_trusted-trusted.ensures c.is_racy-racy.ensures c.needs_comparison-compares.ensures c.if-not-compares.false refl);
+      view = said.view;
+      allowed = said.allowed;
+      decided = λ _. comparison_failed q (candidate_entry c.args.candidate.now) c.args.candidate.now.node c.args.stat c.args.executable_bit_changed c.is_trusted-trusted.result c.is_racy-racy.result c.needs_comparison-compares.result c.in_err-comparison.field-0.0
+          c.is_trusted-trusted.ensures c.is_racy-racy.ensures c.needs_comparison-compares.ensures c.if-not-compares.false (said.compared refl);
     })
 
 pub returns-clause-seen : goal.returns-clause-seen
 returns-clause-seen g c =
+    let i = c.args.self.now.inputs in
     let e = candidate_entry c.args.candidate.now in
-    let said = c.in_ok-comparison.comparison in
-    let view : View g.row.C-Output.Denot g.row.S-Output.Denot = record nothing_seen { compared = Ok said.change; reads = said.reads } in
+    let n = c.args.candidate.now.node in
+    let said = c.in_ok-comparison.ensures.seen in
+    let q = viewed c.args.self.now.settings (g.T.ToGit.conversion i.filter) (g.C.CompareBlobs.answer i.compare) (g.C.CompareBlobs.counts_after i.compare) said.view in
+    let compared = said.compared refl in
     record {
-      view = view;
-      decided = λ _. compared_of_case (viewed c.args.self.now.settings view) e c.args.candidate.now.node c.args.stat c.args.executable_bit_changed c.is_trusted-trusted.result c.is_racy-racy.result c.needs_comparison-compares.result said.change (Some said.reads) c.decision_of.result
-          c.is_trusted-trusted.ensures c.is_racy-racy.ensures c.needs_comparison-compares.ensures c.if-not-compares.false refl (c.decision_of.ensures e.path (Some said.reads) refl);
+      view = said.view;
+      allowed = said.allowed;
+      decided = λ _. compared_of_case q e n c.args.stat c.args.executable_bit_changed c.is_trusted-trusted.result c.is_racy-racy.result c.needs_comparison-compares.result c.in_ok-comparison.comparison.change (counted_of q e n) c.decision_of.result
+          c.is_trusted-trusted.ensures c.is_racy-racy.ensures c.needs_comparison-compares.ensures c.if-not-compares.false compared.0 (c.decision_of.ensures e.path (counted_of q e n) compared.1);
     }

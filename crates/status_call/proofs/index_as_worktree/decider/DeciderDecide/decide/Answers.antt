@@ -1,4 +1,4 @@
-use Rattle.std.proofs.Common.{sym, refl, ap, ◌∙◌, Some, None, Ok, Err}
+use Rattle.std.proofs.Common.{sym, refl, ap, ◌∙◌, Some, Ok, Err}
 use Rattle.std.proofs.Math.Logic.{∥∥₁_map}
 use Rattle.std.proofs.lemmas.Result.{err_from_is_err_and}
 use Rattle.bstr.specs.BStr.{bstr_bytes}
@@ -12,9 +12,12 @@ use Rattle.status_call.specs.EntryParts.{counted_of, found_presence}
 use Rattle.status_call.specs.EntrySights.{viewed}
 use Rattle.status_call.specs.Modelled.{all_modelled, are_modelled}
 use Rattle.status_call.specs.Query.{Query}
-use Rattle.status_call.specs.Status.{case_of_found, directory, directory_case, found, gone, present}
+use Rattle.status_call.specs.Status.{case_of_found, directory, found, gone, present}
 use Rattle.status_base.specs.ListedNodes.{known_node}
-use Rattle.status_call.proofs.SightCases.{seen_found, seen_refused, unread_case}
+use Rattle.status_call.specs.MayReturn.{MayReturn}
+use Rattle.status_call.specs.ViewLaws.{free_view}
+use Rattle.status_call.specs.Views.{nothing_seen}
+use Rattle.status_call.proofs.SightCases.{directory_refused, directory_seen, seen_found, seen_refused, unread_case}
 use Rattle.status_call.proofs.EntryCases.{all_submodule, counted_look, is_decided, presence_node, reported_counts}
 use Rattle.status_call.proofs.index_as_worktree.decider.DeciderDecide.decide.Goals as goal
 
@@ -30,13 +33,13 @@ returns-in_ok-decided-in-Node-clause-answer g c =
       executable_bit = s.fs.executable_bit;
       timestamp = s.timestamp;
       lstat = λ _. g.W.Worktree.lstat_of i.worktree.now;
-      opened = g.W.Worktree.open_of i.worktree.now;
-      linked = g.W.Worktree.target_of i.worktree.now;
+      opened = λ e. g.W.Worktree.open_of i.worktree.now e.path;
+      linked = λ e. g.W.Worktree.target_of i.worktree.now e.path;
       cached = λ e. known_node s.fscache (g.L.Lister.listing i.lister) e.path;
       prefix = g.P.Pathspec.prefix i.pathspec;
       included = g.P.Pathspec.included i.pathspec;
       conversion = λ content path. g.T.ToGit.conversion i.filter content path;
-      blob = g.O.Find.found i.objects;
+      blob = λ e. g.O.Find.found i.objects e.id;
       submodule = g.S.SubmoduleStatus.status_of i.submodule;
       compared = g.C.CompareBlobs.answer i.compare;
       counted = g.C.CompareBlobs.counts_after i.compare;
@@ -62,13 +65,13 @@ returns-in_err-decided-in-Node-clause-answer g c =
       executable_bit = s.fs.executable_bit;
       timestamp = s.timestamp;
       lstat = λ _. g.W.Worktree.lstat_of i.worktree.now;
-      opened = g.W.Worktree.open_of i.worktree.now;
-      linked = g.W.Worktree.target_of i.worktree.now;
+      opened = λ e. g.W.Worktree.open_of i.worktree.now e.path;
+      linked = λ e. g.W.Worktree.target_of i.worktree.now e.path;
       cached = λ e. known_node s.fscache (g.L.Lister.listing i.lister) e.path;
       prefix = g.P.Pathspec.prefix i.pathspec;
       included = g.P.Pathspec.included i.pathspec;
       conversion = λ content path. g.T.ToGit.conversion i.filter content path;
-      blob = g.O.Find.found i.objects;
+      blob = λ e. g.O.Find.found i.objects e.id;
       submodule = g.S.SubmoduleStatus.status_of i.submodule;
       compared = g.C.CompareBlobs.answer i.compare;
       counted = g.C.CompareBlobs.counts_after i.compare;
@@ -101,13 +104,13 @@ returns-in_ok-decided-in-Directory-clause-answer g c =
       executable_bit = s.fs.executable_bit;
       timestamp = s.timestamp;
       lstat = λ _. g.W.Worktree.lstat_of i.worktree.now;
-      opened = g.W.Worktree.open_of i.worktree.now;
-      linked = g.W.Worktree.target_of i.worktree.now;
+      opened = λ e. g.W.Worktree.open_of i.worktree.now e.path;
+      linked = λ e. g.W.Worktree.target_of i.worktree.now e.path;
       cached = λ e. known_node s.fscache (g.L.Lister.listing i.lister) e.path;
       prefix = g.P.Pathspec.prefix i.pathspec;
       included = g.P.Pathspec.included i.pathspec;
       conversion = λ content path. g.T.ToGit.conversion i.filter content path;
-      blob = g.O.Find.found i.objects;
+      blob = λ e. g.O.Find.found i.objects e.id;
       submodule = g.S.SubmoduleStatus.status_of i.submodule;
       compared = g.C.CompareBlobs.answer i.compare;
       counted = g.C.CompareBlobs.counts_after i.compare;
@@ -132,13 +135,13 @@ returns-in_err-decided-in-Directory-clause-answer g c =
       executable_bit = s.fs.executable_bit;
       timestamp = s.timestamp;
       lstat = λ _. g.W.Worktree.lstat_of i.worktree.now;
-      opened = g.W.Worktree.open_of i.worktree.now;
-      linked = g.W.Worktree.target_of i.worktree.now;
+      opened = λ e. g.W.Worktree.open_of i.worktree.now e.path;
+      linked = λ e. g.W.Worktree.target_of i.worktree.now e.path;
       cached = λ e. known_node s.fscache (g.L.Lister.listing i.lister) e.path;
       prefix = g.P.Pathspec.prefix i.pathspec;
       included = g.P.Pathspec.included i.pathspec;
       conversion = λ content path. g.T.ToGit.conversion i.filter content path;
-      blob = g.O.Find.found i.objects;
+      blob = λ e. g.O.Find.found i.objects e.id;
       submodule = g.S.SubmoduleStatus.status_of i.submodule;
       compared = g.C.CompareBlobs.answer i.compare;
       counted = g.C.CompareBlobs.counts_after i.compare;
@@ -161,48 +164,62 @@ returns-in_ok-decided-in-Directory-clause-same g c = rw (c.look.ensures.inputs, 
 -- By what was seen.
 pub returns-in_err-presence-clause-seen : goal.returns-in_err-presence-clause-seen
 returns-in_err-presence-clause-seen g c =
+    let i = c.args.self.now.inputs in
+    let e = entry_at (bstr_bytes c.args.path) c.args.entry.now in
+    let may : MayReturn g.row.S-Output.Denot = record { stat = g.W.Worktree.may_stat i.worktree.now; opened = g.W.Worktree.may_open i.worktree.now; linked = g.W.Worktree.may_link i.worktree.now; found = g.O.Find.may_find i.objects; reported = g.S.SubmoduleStatus.may_report i.submodule } in
+    let free = free_view may c.args.self.now.settings.fscache e (g.met.W.Worktree.stat_may_fail i.worktree.now) (g.met.W.Worktree.open_may_fail i.worktree.now e.path) (g.met.W.Worktree.link_may_fail i.worktree.now e.path) (g.met.O.Find.find_may_fail i.objects e.id) in
     let p = err_from_is_err_and c.from_residual.result c.from_residual.ensures.1 in
-    rw (p.1, p.2) (∥∥₁_map c.in_err-presence.ensures.seen (seen_refused _ _ _ _ _))
+    rw (p.1, p.2) (∥∥₁_map c.in_err-presence.ensures.seen (seen_refused _ e may _ free _))
 
 pub returns-in-Nothing-clause-seen : goal.returns-in-Nothing-clause-seen
 returns-in-Nothing-clause-seen g c =
+    let i = c.args.self.now.inputs in
+    let e = entry_at (bstr_bytes c.args.path) c.args.entry.now in
+    let may : MayReturn g.row.S-Output.Denot = record { stat = g.W.Worktree.may_stat i.worktree.now; opened = g.W.Worktree.may_open i.worktree.now; linked = g.W.Worktree.may_link i.worktree.now; found = g.O.Find.may_find i.objects; reported = g.S.SubmoduleStatus.may_report i.submodule } in
+    let free = free_view may c.args.self.now.settings.fscache e (g.met.W.Worktree.stat_may_fail i.worktree.now) (g.met.W.Worktree.open_may_fail i.worktree.now e.path) (g.met.W.Worktree.link_may_fail i.worktree.now e.path) (g.met.O.Find.find_may_fail i.objects e.id) in
     let look = c.in_ok-presence.field-0 in
     ∥∥₁_map c.in_ok-presence.ensures.seen (λ s.
-    seen_found _ _ _ _ look presences.Nothing c.in-Nothing.is s (Ok None) (Ok None) no_reads (Ok c.unread.result)
+    seen_found _ e may _ look presences.Nothing c.in-Nothing.is s nothing_seen free.content (λ h. absurd (cc)) (Ok c.unread.result)
     (unread_case (bstr_bytes c.args.path) gone (Some (statuses.Change changes.Removed)) look.lstat_called no_reads c.unread.result c.unread.ensures refl refl refl))
 
 pub returns-in_ok-decided-in-Directory-clause-seen : goal.returns-in_ok-decided-in-Directory-clause-seen
 returns-in_ok-decided-in-Directory-clause-seen g c =
-    let look = c.in_ok-presence.field-0 in
+    let i = c.args.self.now.inputs in
     let e = entry_at (bstr_bytes c.args.path) c.args.entry.now in
-    let said = c.in_ok-decided-in-Directory.ensures.seen in
-    ∥∥₁_map c.in_ok-presence.ensures.seen (λ s.
-    seen_found _ _ _ _ look presences.Directory c.in-Directory.is s said.said (Ok None) no_reads (Ok (record c.in_ok-decided-in-Directory.decided { lstat_called = look.lstat_called }))
-    (counted_look e.path (directory_case e said.said) look.lstat_called (Some no_reads) c.in_ok-decided-in-Directory.decided said.decided))
+    let may : MayReturn g.row.S-Output.Denot = record { stat = g.W.Worktree.may_stat i.worktree.now; opened = g.W.Worktree.may_open i.worktree.now; linked = g.W.Worktree.may_link i.worktree.now; found = g.O.Find.may_find i.objects; reported = g.S.SubmoduleStatus.may_report i.submodule } in
+    let free = free_view may c.args.self.now.settings.fscache e (g.met.W.Worktree.stat_may_fail i.worktree.now) (g.met.W.Worktree.open_may_fail i.worktree.now e.path) (g.met.W.Worktree.link_may_fail i.worktree.now e.path) (g.met.O.Find.find_may_fail i.objects e.id) in
+    let look = c.in_ok-presence.field-0 in
+    let said = rw c.look.ensures.inputs at c.in_ok-decided-in-Directory.ensures.seen in
+    ∥∥₁_map c.in_ok-presence.ensures.seen (λ s. directory_seen _ e may _ look presences.Directory c.in-Directory.is s refl free c.in_ok-decided-in-Directory.decided said)
 
 pub returns-in_err-decided-in-Directory-clause-seen : goal.returns-in_err-decided-in-Directory-clause-seen
 returns-in_err-decided-in-Directory-clause-seen g c =
+    let i = c.args.self.now.inputs in
+    let e = entry_at (bstr_bytes c.args.path) c.args.entry.now in
+    let may : MayReturn g.row.S-Output.Denot = record { stat = g.W.Worktree.may_stat i.worktree.now; opened = g.W.Worktree.may_open i.worktree.now; linked = g.W.Worktree.may_link i.worktree.now; found = g.O.Find.may_find i.objects; reported = g.S.SubmoduleStatus.may_report i.submodule } in
+    let free = free_view may c.args.self.now.settings.fscache e (g.met.W.Worktree.stat_may_fail i.worktree.now) (g.met.W.Worktree.open_may_fail i.worktree.now e.path) (g.met.W.Worktree.link_may_fail i.worktree.now e.path) (g.met.O.Find.find_may_fail i.objects e.id) in
     let look = c.in_ok-presence.field-0 in
-    let said = c.in_err-decided-in-Directory.ensures.seen in
+    let said = rw c.look.ensures.inputs at c.in_err-decided-in-Directory.ensures.seen in
     let p = err_from_is_err_and c.from_residual-in_err-decided-in-Directory.result c.from_residual-in_err-decided-in-Directory.ensures.1 in
-    rw (p.1, p.2) (∥∥₁_map c.in_ok-presence.ensures.seen (λ s.
-    seen_found _ _ _ _ look presences.Directory c.in-Directory.is s said.said (Ok None) no_reads (Err c.in_err-decided-in-Directory.field-0.0) said.decided))
+    rw (p.1, p.2) (∥∥₁_map c.in_ok-presence.ensures.seen (λ s. directory_refused _ e may _ look presences.Directory c.in-Directory.is s refl free c.in_err-decided-in-Directory.field-0.0 said))
 
 pub returns-in_ok-decided-in-Node-clause-seen : goal.returns-in_ok-decided-in-Node-clause-seen
 returns-in_ok-decided-in-Node-clause-seen g c =
+    let i = c.args.self.now.inputs in
     let look = c.in_ok-presence.field-0 in
     let e = entry_at (bstr_bytes c.args.path) c.args.entry.now in
     let n = c.in-Node.node in
-    let said = rw (c.look.ensures.settings) at c.in_ok-decided-in-Node.ensures.seen in
+    let said = rw (c.look.ensures.inputs, c.look.ensures.settings) at c.in_ok-decided-in-Node.ensures.seen in
+    let q = viewed c.args.self.now.settings (g.T.ToGit.conversion i.filter) (g.C.CompareBlobs.answer i.compare) (g.C.CompareBlobs.counts_after i.compare) said.view in
     ∥∥₁_map c.in_ok-presence.ensures.seen (λ s.
-    seen_found _ _ _ _ look (presences.Node n) c.in-Node.is s (Ok None) said.view.compared said.view.reads (Ok (record c.in_ok-decided-in-Node.decided { lstat_called = look.lstat_called }))
-    (counted_look e.path (case_of_found (viewed c.args.self.now.settings said.view) e (present n)) look.lstat_called (Some said.view.reads) c.in_ok-decided-in-Node.decided (said.decided refl)))
+    seen_found _ _ _ _ look (presences.Node n) c.in-Node.is s said.view said.allowed (λ h. absurd (cc)) (Ok (record c.in_ok-decided-in-Node.decided { lstat_called = look.lstat_called }))
+    (counted_look e.path (case_of_found q e (present n)) look.lstat_called (counted_of q e n) c.in_ok-decided-in-Node.decided (said.decided refl)))
 
 pub returns-in_err-decided-in-Node-clause-seen : goal.returns-in_err-decided-in-Node-clause-seen
 returns-in_err-decided-in-Node-clause-seen g c =
     let look = c.in_ok-presence.field-0 in
     let n = c.in-Node.node in
-    let said = rw (c.look.ensures.settings) at c.in_err-decided-in-Node.ensures.seen in
+    let said = rw (c.look.ensures.inputs, c.look.ensures.settings) at c.in_err-decided-in-Node.ensures.seen in
     let p = err_from_is_err_and c.from_residual-in_err-decided-in-Node.result c.from_residual-in_err-decided-in-Node.ensures.1 in
     rw (p.1, p.2) (∥∥₁_map c.in_ok-presence.ensures.seen (λ s.
-    seen_found _ _ _ _ look (presences.Node n) c.in-Node.is s (Ok None) said.view.compared said.view.reads (Err c.in_err-decided-in-Node.field-0.0) (said.decided refl)))
+    seen_found _ _ _ _ look (presences.Node n) c.in-Node.is s said.view said.allowed (λ h. absurd (cc)) (Err c.in_err-decided-in-Node.field-0.0) (said.decided refl)))
