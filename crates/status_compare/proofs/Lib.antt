@@ -1,1 +1,4 @@
 pub mod Agree
+pub mod Hashed
+pub mod Identified
+pub mod Refusals
