@@ -1,5 +1,5 @@
 -- The bytes that are stored of a file, by its attributes.
-use Rattle.std.specs.Prelude.{◌≡◌, ◌↔◌, not, ◌==◌, ◌&&◌, [], ◌∷◌, ℕ, ◌||◌, Bool, true, false, List, filter, Option, Some, None, if◌then◌else◌}
+use Rattle.std.specs.Prelude.{◌≡◌, ◌↔◌, not, ◌&&◌, [], ◌∷◌, ℕ, ◌||◌, Bool, true, false, List, filter, Option, Some, None, if◌then◌else◌}
 use Rattle.std.specs.List.{list_any}
 use Rattle.status_base.specs.Conversions.{Conversion, other, refused, same}
 use Rattle.status_index.specs.BlobId.{blob_id, same_id}

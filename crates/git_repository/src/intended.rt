@@ -38,6 +38,10 @@ impl<R: Files + AllocGlobal, W: Worktree> Worktree for IntendedWorktree<'_, R, W
 
     ghost stat_may_fail = { λ _ _. tt };
 
+    ghost open_may_fail = { λ _ _. tt };
+
+    ghost link_may_fail = { λ _ _. tt };
+
     fn lstat(&self, path: BStr<'_>) -> Result<Metadata, Fault> {
         let mut found = self.worktree.lstat(path)?;
         if found.kind == NodeKind::Directory && self.is_other(path) {

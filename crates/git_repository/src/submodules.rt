@@ -63,6 +63,8 @@ impl<'a, R: Files + AllocGlobal> SubmoduleStatus for SubmoduleHeads<'a, R> {
 
     ghost clone_keeps_status = { λ _ _ _. refl };
 
+    ghost clone_reports_within = { λ _ _ _ _ _ _. tt };
+
     fn status(
         &mut self,
         entry: &Entry,

@@ -25,6 +25,10 @@ impl<'a> Find for FolderObjects<'a> {
 
     ghost clone_keeps_found = { λ _ _ _. refl };
 
+    ghost clone_finds_within = { λ _ _ _ _ _ _. tt };
+
+    ghost find_may_fail = { λ _ _. tt };
+
     fn find_blob(&self, id: &ObjectId, buffer: &mut Vec<u8>) -> Result<(), FindError> {
         match read_blob(self.rt, self.folder, id, buffer) {
             Ok(()) => Ok(()),

@@ -42,6 +42,8 @@ impl<'a> SubmoduleStatus for Alike<'a> {
 
     ghost clone_keeps_status = { λ _ _ same. ap (λ s _. answer_of s.answer) same };
 
+    ghost clone_reports_within = { λ _ _ _ _ _ _. tt };
+
     fn status(&mut self, _entry: &Entry, _path: BStr<'_>) -> Result<Option<u32>, SubmoduleFault> {
         match self.answer {
             Ok(change) => Ok(change),
@@ -72,6 +74,8 @@ impl<'a> SubmoduleStatus for FolderSubmodules<'a> {
     ghost clone_keeps_modelled = { λ _ _ _. refl };
 
     ghost clone_keeps_status = { λ _ _ _. refl };
+
+    ghost clone_reports_within = { λ _ _ _ _ _ _. tt };
 
     fn status(&mut self, _entry: &Entry, path: BStr<'_>) -> Result<Option<usize>, SubmoduleFault> {
         records_below(self.rt, self.index, self.root, path)

@@ -64,7 +64,15 @@ impl<'a, W: Worktree> Worktree for Counted<'a, W> {
 
     ghost may_stat = { λ c. W.may_stat c.worktree };
 
+    ghost may_open = { λ c. W.may_open c.worktree };
+
+    ghost may_link = { λ c. W.may_link c.worktree };
+
     ghost stat_may_fail = { λ c. W.stat_may_fail c.worktree };
+
+    ghost open_may_fail = { λ c. W.open_may_fail c.worktree };
+
+    ghost link_may_fail = { λ c. W.link_may_fail c.worktree };
 
     fn lstat(&self, path: BStr<'_>) -> Result<Metadata, Fault> {
         self.count(path, &self.calls.looks);

@@ -20,6 +20,8 @@ pub struct BrokenFile {
 }
 
 impl ReadBytes for BrokenFile {
+    ghost give_may_fail = { λ _. tt };
+
     fn read_bytes(&mut self, buffer: &mut [u8]) -> Result<usize, Fault> {
         match self.fault {
             Some(fault) => Err(fault),
@@ -57,6 +59,10 @@ impl<'a> Worktree for Broken<'a> {
     type File = BrokenFile;
 
     ghost stat_may_fail = { λ _ _. tt };
+
+    ghost open_may_fail = { λ _ _. tt };
+
+    ghost link_may_fail = { λ _ _. tt };
 
     fn lstat(&self, path: BStr<'_>) -> Result<Metadata, Fault> {
         self.check(Point::Lstat, path)?;

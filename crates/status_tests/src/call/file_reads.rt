@@ -14,6 +14,8 @@ struct CountedPiece<'a> {
 }
 
 impl<'a> ReadBytes for CountedPiece<'a> {
+    ghost give_may_fail = { λ _. tt };
+
     fn read_bytes(&mut self, buffer: &mut [u8]) -> Result<usize, Fault> {
         self.reads.fetch_add(1, Ordering::SeqCst);
         self.piece.read_bytes(buffer)
@@ -32,6 +34,10 @@ impl<'a> Worktree for Everywhere<'a> {
     type File = CountedPiece<'a>;
 
     ghost stat_may_fail = { λ _ _. tt };
+
+    ghost open_may_fail = { λ _ _. tt };
+
+    ghost link_may_fail = { λ _ _. tt };
 
     fn lstat(&self, _path: BStr<'_>) -> Result<Metadata, Fault> {
         Ok(Metadata {

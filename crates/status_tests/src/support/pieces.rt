@@ -1,6 +1,8 @@
 //! Readers that tests use.
 
 ghost use Rattle.std.specs.Prelude.{Some};
+ghost use Rattle.status_index.specs.Given.{IsKnownOrCut};
+ghost use Rattle.status_index.proofs.Gifts.{cut_at_once};
 
 use status_index::{Fault, ReadBytes};
 
@@ -13,6 +15,10 @@ pub struct Piece<'a> {
 
 impl<'a> ReadBytes for Piece<'a> {
     ghost left = { λ piece. Some (record { bytes = piece.bytes.now; fault = piece.fault }) };
+
+    ghost may_give = { λ piece. IsKnownOrCut (record { bytes = piece.bytes.now; fault = piece.fault }) };
+
+    ghost give_may_fail = { λ piece. cut_at_once (record { bytes = piece.bytes.now; fault = piece.fault }) };
 
     fn read_bytes(&mut self, buffer: &mut [u8]) -> Result<usize, Fault> {
         if self.bytes.is_empty() {

@@ -87,6 +87,10 @@ impl<'a> Worktree for WatchedWorktree<'a> {
 
     ghost stat_may_fail = { λ _ _. tt };
 
+    ghost open_may_fail = { λ _ _. tt };
+
+    ghost link_may_fail = { λ _ _. tt };
+
     fn lstat(&self, path: BStr<'_>) -> Result<Metadata, Fault> {
         let is_link = self.effect(path)?;
         let found = self.worktree.lstat(path)?;
