@@ -1,5 +1,9 @@
 //! Why an index file isn't read.
 
+ghost use Rattle.std.specs.Prelude.{◌≡◌};
+ghost use Rattle.git_index.specs.Refusals.{of_index};
+ghost use Rattle.git_index.specs.declared.fault.IndexFileError.TheVariants.{Memory};
+
 use bstr::BStr;
 use status_index::IndexError;
 use std::alloc::AllocError;
@@ -84,9 +88,6 @@ pub enum IndexFileError {
 }
 
 impl From<IndexError> for IndexFileError {
-    ghost use Rattle.std.specs.Prelude.{◌≡◌};
-    ghost use Rattle.git_index.specs.Refusals.{of_index};
-
     ghost from_gives = { λ e f. f ≡ of_index e };
 
     fn from(error: IndexError) -> IndexFileError {
@@ -98,9 +99,6 @@ impl From<IndexError> for IndexFileError {
 }
 
 impl From<AllocError> for IndexFileError {
-    ghost use Rattle.std.specs.Prelude.{◌≡◌};
-    ghost use Rattle.git_index.specs.declared.fault.IndexFileError.TheVariants.{Memory};
-
     ghost from_gives = { λ _ f. f ≡ Memory };
 
     fn from(_error: AllocError) -> IndexFileError {
