@@ -87,10 +87,11 @@ pub enum IndexFileError {
     Memory,
 }
 
-impl From<IndexError> for IndexFileError {
-    ghost from_gives = { λ e f. f ≡ of_index e };
-
-    fn from(error: IndexError) -> IndexFileError {
+impl IndexFileError {
+    /// Returns the error of bytes whose entries aren't an index for this reason.
+    pub fn of_index(error: IndexError) -> IndexFileError
+        ensures { result ≡ of_index error }
+    {
         match error {
             IndexError::Memory => IndexFileError::Memory,
             _ => IndexFileError::Index(error),
