@@ -1,7 +1,7 @@
 //! Lines of attribute files.
 
 ghost use Rattle.std.specs.Prelude.{◌≡◌, IfOk, map, option_map};
-ghost use Rattle.git_attributes.specs.Lines.{ends_in_slash, has_slash, line_at, macro_name, macro_of, pattern_of, plain_line_at, rule_of, line_with_front, without_slash};
+ghost use Rattle.git_attributes.specs.Lines.{ends_in_slash, has_slash, line_at, macro_name, macro_of, pattern_of, plain_line_at, line_with_front, without_slash};
 ghost use Rattle.git_attributes.specs.Views.{line_view, part_of};
 
 use crate::assignment::{Assignment, assignments_of, is_name};
@@ -81,29 +81,6 @@ fn pattern_of(alloc: Global, text: &[u8]) -> Result<Option<(bool, Vec<Piece>)>, 
     }
 }
 
-/// Returns the rule of a pattern and the text of its assignments. None if one of them isn't one.
-fn rule_of<'a>(
-    alloc: Global,
-    folder: &'a [u8],
-    pattern: &[u8],
-    text: &'a [u8],
-) -> Result<Option<Line<'a>>, AllocError>
-    ensures { IfOk result (λ found. option_map line_view found ≡ rule_of folder.now pattern.now text.now) }
-{
-    let Some(given) = assignments_of(alloc, text)? else {
-        return Ok(None);
-    };
-    match pattern_of(alloc, pattern)? {
-        Some((by_name, pieces)) => Ok(Some(Line::Rule(Rule {
-            folder,
-            by_name,
-            pieces,
-            given,
-        }))),
-        None => Ok(None),
-    }
-}
-
 /// Returns the macro whose name is the first word of a text, up to a NUL, with the assignments of the other text. None if one
 /// of them isn't one.
 fn macro_of<'a>(alloc: Global, name: &[u8], text: &'a [u8]) -> Result<Option<Line<'a>>, AllocError>
@@ -134,7 +111,8 @@ fn macro_name(text: &[u8]) -> Option<&[u8]>
     }
 }
 
-/// Returns what a line says that begins with this pattern or macro.
+/// Returns what a line says that begins with this pattern or macro: the macro, or the rule of the pattern, with the
+/// assignments of the other text. None if one of them isn't one.
 fn line_with_front<'a>(
     alloc: Global,
     folder: &'a [u8],
@@ -143,9 +121,20 @@ fn line_with_front<'a>(
 ) -> Result<Option<Line<'a>>, AllocError>
     ensures { IfOk result (λ found. option_map line_view found ≡ line_with_front folder.now front.now text.now) }
 {
-    match macro_name(front) {
-        Some(name) => macro_of(alloc, name, text),
-        None => rule_of(alloc, folder, front, text),
+    if let Some(name) = macro_name(front) {
+        return macro_of(alloc, name, text);
+    }
+    let Some(given) = assignments_of(alloc, text)? else {
+        return Ok(None);
+    };
+    match pattern_of(alloc, front)? {
+        Some((by_name, pieces)) => Ok(Some(Line::Rule(Rule {
+            folder,
+            by_name,
+            pieces,
+            given,
+        }))),
+        None => Ok(None),
     }
 }
 

@@ -1,5 +1,9 @@
 //! Why an index file isn't read.
 
+ghost use Rattle.std.specs.Prelude.{◌≡◌};
+ghost use Rattle.git_index.specs.Refusals.{of_index};
+ghost use Rattle.git_index.specs.declared.fault.IndexFileError.TheVariants.{Memory};
+
 use bstr::BStr;
 use status_index::IndexError;
 use std::alloc::AllocError;
@@ -83,13 +87,11 @@ pub enum IndexFileError {
     Memory,
 }
 
-impl From<IndexError> for IndexFileError {
-    ghost use Rattle.std.specs.Prelude.{◌≡◌};
-    ghost use Rattle.git_index.specs.Refusals.{of_index};
-
-    ghost from_gives = { λ e f. f ≡ of_index e };
-
-    fn from(error: IndexError) -> IndexFileError {
+impl IndexFileError {
+    /// Returns the error of bytes whose entries aren't an index for this reason.
+    pub fn of_index(error: IndexError) -> IndexFileError
+        ensures { result ≡ of_index error }
+    {
         match error {
             IndexError::Memory => IndexFileError::Memory,
             _ => IndexFileError::Index(error),
@@ -98,9 +100,6 @@ impl From<IndexError> for IndexFileError {
 }
 
 impl From<AllocError> for IndexFileError {
-    ghost use Rattle.std.specs.Prelude.{◌≡◌};
-    ghost use Rattle.git_index.specs.declared.fault.IndexFileError.TheVariants.{Memory};
-
     ghost from_gives = { λ _ f. f ≡ Memory };
 
     fn from(_error: AllocError) -> IndexFileError {

@@ -80,5 +80,7 @@ fn push_named(
         return Err(IndexFileError::NameLength { at });
     }
     let path = BStr::new(path);
-    Ok(state.push_entry(entry.stat, entry.id, entry.flags, entry.mode, path)?)
+    state
+        .push_entry(entry.stat, entry.id, entry.flags, entry.mode, path)
+        .map_err(IndexFileError::of_index)
 }

@@ -173,33 +173,6 @@ fn room_for(kind: HashKind, state: &State, extensions: &[u8]) -> usize {
     room
 }
 
-/// Does the same as `write_index`.
-fn written(
-    alloc: Global,
-    kind: HashKind,
-    version: u32,
-    state: &State,
-    extensions: &[u8],
-    has_checksum: bool,
-) -> Result<Vec<u8>, AllocError>
-    requires { length (entries_of state.now) < 2 ^ 32 }
-    ensures { IfOk result (λ v. v.items ≡ file_bytes kind version (index_of state.now) extensions.now has_checksum) }
-{
-    let entries = state.entries();
-    let mut out = Vec::with_capacity(alloc, room_for(kind, state, extensions))?;
-    put_header(&mut out, version, entries.len() as u32)?;
-    let mut last: &[u8] = b"";
-    for entry in entries {
-        let path = entry.path_in(state.path_backing()).as_bytes();
-        put_entry(&mut out, kind, version, last, entry, path)?;
-        last = path;
-    }
-    out.extend_from_slice(extensions)?;
-    let sum = checksum_of(kind, out.as_slice(), has_checksum);
-    out.extend_from_slice(sum.as_bytes())?;
-    Ok(out)
-}
-
 /// Returns the bytes of a file with these entries and these bytes of extensions. It is an index file if the version is
 /// 2, 3 or 4, the extensions are optional ones, and the entries fit: their ids are of this kind, no path has a zero byte,
 /// and they have no flags except the stage, assume-valid, and, not in version 2, skip-worktree and intent-to-add. Other
@@ -221,5 +194,17 @@ pub fn write_index(
     ensures file { IfOk result (λ v. is_version version ≡ true → EntriesFit kind version (index_of state.now) → AreExtensions extensions.now
         → IsFileOf kind v.items version (index_of state.now) extensions.now) }
 {
-    written(alloc, kind, version, state, extensions, has_checksum)
+    let entries = state.entries();
+    let mut out = Vec::with_capacity(alloc, room_for(kind, state, extensions))?;
+    put_header(&mut out, version, entries.len() as u32)?;
+    let mut last: &[u8] = b"";
+    for entry in entries {
+        let path = entry.path_in(state.path_backing()).as_bytes();
+        put_entry(&mut out, kind, version, last, entry, path)?;
+        last = path;
+    }
+    out.extend_from_slice(extensions)?;
+    let sum = checksum_of(kind, out.as_slice(), has_checksum);
+    out.extend_from_slice(sum.as_bytes())?;
+    Ok(out)
 }

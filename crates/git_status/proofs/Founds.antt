@@ -9,7 +9,7 @@ use Rattle.git_index.specs.File.{IsFileOf}
 use Rattle.status_call.specs.Inputs.{settings}
 use Rattle.status_call.specs.IndexChanges.{AreInside}
 use Rattle.status_index.specs.States.{index_of, timestamp_of}
-use Rattle.git_status.specs.declared.refresh.RefreshedFile.{RefreshedFile}
+use Rattle.git_status.specs.declared.refresh.Refreshed.{Refreshed}
 use Rattle.status_call.specs.Counts.{skipped_of}
 use Rattle.status_base.specs.Sights.{MayStat}
 use Rattle.status_call.specs.Query.{Query}
@@ -139,13 +139,13 @@ module _ {T U : Type 0} where
     failed_by f new (inl run) = unrefreshed f new run.0 run.1
     failed_by f new (inr early) = inl (subst (λ after. IsCommandRun a bytes old (Err f) after) (sym early.1) (early_run a bytes old (Err f) early.0))
 
-    pub unrefreshed_file : (f : Failure) (result : Result RefreshedFile Failure) (new : Option (List ℕ)) → IsIndexFound true a index old (Err f) new → IsErrAnd result (λ e. e ≡ f) → IsRefresh a bytes old result new
+    pub unrefreshed_file : (f : Failure) (result : Result (Report × Refreshed) Failure) (new : Option (List ℕ)) → IsIndexFound true a index old (Err f) new → IsErrAnd result (λ e. e ≡ f) → IsRefresh a bytes old result new
     unfolding IsRefresh
     unrefreshed_file f (Ok r) new run failed = absurd failed
     unrefreshed_file f (Err e) new run failed = subst (λ e. IsUnrefreshed a bytes old e new) (sym failed) (failed_by f new run)
 
     -- memory ran out after the changes were found
-    pub late_file : (found : Found) (result : Result RefreshedFile Failure) (new : Option (List ℕ)) → IsIndexFound true a index old (Ok found) new → IsErrAnd result (λ e. e ≡ Memory) → IsRefresh a bytes old result new
+    pub late_file : (found : Found) (result : Result (Report × Refreshed) Failure) (new : Option (List ℕ)) → IsIndexFound true a index old (Ok found) new → IsErrAnd result (λ e. e ≡ Memory) → IsRefresh a bytes old result new
     unfolding IsRefresh
     late_file found (Ok r) new run failed = absurd failed
     late_file found (Err e) new run failed =

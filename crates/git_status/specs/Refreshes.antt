@@ -1,5 +1,5 @@
 -- The index file after a refresh: the same, except for the changes that the refresh makes.
-use Rattle.std.specs.Prelude.{◌≡◌, ◌≢◌, ◌⊎◌, ◌↔◌, ℕ, Bool, false, List, [], replicate, Option, Some, None, Result, Ok, Err}
+use Rattle.std.specs.Prelude.{◌≡◌, ◌≢◌, ◌⊎◌, ◌↔◌, ℕ, Bool, false, List, [], replicate, Option, Some, None, Result, Ok, Err, if◌then◌else◌}
 use Rattle.std.specs.Option.{option_map}
 use Rattle.git_attributes.specs.Files.{attributes_of}
 use Rattle.git_index.specs.File.{IsFileOf}
@@ -17,7 +17,6 @@ use Rattle.git_status.specs.declared.answer.Report.{Report}
 use Rattle.git_status.specs.declared.failure.Failure.{Failure}
 use Rattle.git_status.specs.declared.failure.Failure.TheVariants.{Memory}
 use Rattle.git_status.specs.declared.refresh.Refreshed.{Refreshed}
-use Rattle.git_status.specs.declared.refresh.RefreshedFile.{RefreshedFile}
 
 -- A file of these entries, written with a checksum unless the old bytes end in zeros in place of one; its index is valid.
 pub record IsIndexRewritten (kind : HashKind) (old : List ℕ) (version : ℕ) (extensions : List ℕ) (es : List IndexEntry) (bytes : List ℕ) : Type 0 where
@@ -45,8 +44,9 @@ module _ {T U : Type 0} where
   IsUnrefreshed a bytes old f new = IsCommandRun a bytes old (Err f) new ⊎ ((r : Report) × IsCommandRun a bytes old (Ok r) new × (f ≡ Memory))
 
   -- The result of a refresh over the bytes of an index file and a worktree.
-  unfoldable pub IsRefresh : Asking T U → List ℕ → Option (List ℕ) → Result RefreshedFile Failure → Option (List ℕ) → Type 0
-  IsRefresh a bytes old (Ok r) new = IsFileRefreshed a bytes old r.report r.is_whole r.extensions.now (option_map (λ v. v.items) r.bytes) new
+  unfoldable pub IsRefresh : Asking T U → List ℕ → Option (List ℕ) → Result (Report × Refreshed) Failure → Option (List ℕ) → Type 0
+  IsRefresh a bytes old (Ok (r, made)) new =
+      (made.status ≡ (if r.dirty then 1 else 0)) × IsFileRefreshed a bytes old r made.is_whole made.extensions.now (option_map (λ v. v.items) made.bytes) new
   IsRefresh a bytes old (Err f) new = IsUnrefreshed a bytes old f new
 
   -- With exit status 0 the refresh found no difference, and with 1 it found one.

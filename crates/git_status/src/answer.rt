@@ -61,7 +61,7 @@ fn print_lines<T: Drop, U: Drop, O: io::Write>(
         return Ok(());
     };
     let text = lines_of(alloc, style, records)?;
-    Ok(print_all(&text, output)?)
+    print_all(&text, output).map_err(Failure::Output)
 }
 
 /// Returns what a status found.
@@ -75,7 +75,10 @@ fn report_of<T: Drop, U: Drop>(
 ) -> Result<Report, Failure>
     ensures { IsFound (map visit_of records.now) answer result }
 {
-    let outcome = answer?;
+    let outcome = match answer {
+        Ok(outcome) => outcome,
+        Err(error) => return Err(Failure::of_status(error)),
+    };
     let dirty = has_difference(records);
     if outcome.interrupted && !dirty {
         return Err(Failure::Interrupted);

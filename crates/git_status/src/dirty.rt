@@ -11,7 +11,7 @@ use crate::answer::Report;
 use crate::asked::{Asked, Question};
 use crate::failure::Failure;
 use crate::fault_place::Search;
-use crate::found::{Found, print_index};
+use crate::found::Found;
 use crate::output::print_failure;
 use crate::read::ReadIndex;
 use crate::remarks::{Remarks, print_remarks};
@@ -104,7 +104,7 @@ fn is_of_an_entry(failure: &Failure) -> bool {
 /// Prints the status of an index file that was read.
 ///
 /// # Errors
-/// Memory runs out, or the failures of `print_index`.
+/// Memory runs out, or the failures of `Asked::print_index`.
 pub fn print_file<
     'a,
     R: AllocGlobal + Threads + Wait,
@@ -125,6 +125,6 @@ where
     requires { IsRead asked.settings read.now }
     ensures { IsCommandRun (⟦<Asked<'a, W, S, P, A> as Question>⟧.asking asked.entry) read.now.bytes.now (O.contents output.old) result (O.contents output.new) }
 {
-    let Found { report, .. } = print_index(rt, &read.file.state, asked, false, output)?;
+    let Found { report, .. } = asked.print_index(rt, &read.file.state, false, output)?;
     Ok(report)
 }

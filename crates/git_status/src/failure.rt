@@ -1,6 +1,8 @@
 //! Why the command fails.
 
 ghost use Rattle.std.specs.Prelude.{◌≡◌};
+ghost use Rattle.git_status.specs.Failures.{failure_of_index, failure_of_status};
+ghost use Rattle.git_status.specs.declared.failure.Failure.TheVariants.{Memory};
 
 use crate::lines::Quoted;
 use bstr::BStr;
@@ -23,6 +25,28 @@ pub enum Failure {
     Output(OutputError),
     /// Memory ran out.
     Memory,
+}
+
+impl Failure {
+    /// Returns the failure for bytes that aren't an index file.
+    pub fn of_index(error: IndexFileError) -> Failure
+        ensures { result ≡ failure_of_index error }
+    {
+        match error {
+            IndexFileError::Memory => Failure::Memory,
+            error => Failure::Index(error),
+        }
+    }
+
+    /// Returns the failure for an error of the status.
+    pub fn of_status(error: Error) -> Failure
+        ensures { result ≡ failure_of_status error }
+    {
+        match error {
+            Error::Memory => Failure::Memory,
+            error => Failure::Status(error),
+        }
+    }
 }
 
 impl fmt::Display for Failure {
@@ -61,51 +85,9 @@ impl fmt::Display for Failure {
 }
 
 impl From<AllocError> for Failure {
-    ghost use Rattle.std.specs.Prelude.{◌≡◌};
-    ghost use Rattle.git_status.specs.declared.failure.Failure.TheVariants.{Memory};
-
     ghost from_gives = { λ _ f. f ≡ Memory };
 
     fn from(_error: AllocError) -> Failure {
         Failure::Memory
-    }
-}
-
-impl From<IndexFileError> for Failure {
-    ghost use Rattle.std.specs.Prelude.{◌≡◌};
-    ghost use Rattle.git_status.specs.Failures.{failure_of_index};
-
-    ghost from_gives = { λ e f. f ≡ failure_of_index e };
-
-    fn from(error: IndexFileError) -> Failure {
-        match error {
-            IndexFileError::Memory => Failure::Memory,
-            error => Failure::Index(error),
-        }
-    }
-}
-
-impl From<Error> for Failure {
-    ghost use Rattle.std.specs.Prelude.{◌≡◌};
-    ghost use Rattle.git_status.specs.Failures.{failure_of_status};
-
-    ghost from_gives = { λ e f. f ≡ failure_of_status e };
-
-    fn from(error: Error) -> Failure {
-        match error {
-            Error::Memory => Failure::Memory,
-            error => Failure::Status(error),
-        }
-    }
-}
-
-impl From<OutputError> for Failure {
-    ghost use Rattle.std.specs.Prelude.{◌≡◌};
-    ghost use Rattle.git_status.specs.declared.failure.Failure.TheVariants.{Output};
-
-    ghost from_gives = { λ e f. f ≡ Output e };
-
-    fn from(error: OutputError) -> Failure {
-        Failure::Output(error)
     }
 }

@@ -29,7 +29,7 @@ impl<'b> ReadIndex<'b> {
     {
         match read_index(alloc, settings.kind, bytes, settings.timestamp) {
             Ok(file) => Ok(ReadIndex { bytes, file }),
-            Err(error) => Err(Failure::from(error)),
+            Err(error) => Err(Failure::of_index(error)),
         }
     }
 }

@@ -3,15 +3,11 @@
 ghost use Rattle.std.specs.Prelude.{◌≡◌, ◌≢◌, ◌⊎◌, ◌<◌, true, false, None};
 ghost use Rattle.git_status.specs.Printing.{IsFaultLine};
 ghost use Rattle.git_status.specs.Reads.{IsRead};
-ghost use Rattle.git_status.specs.Refreshes.{IsRefresh, IsRefreshExit, IsRefreshFailedExit};
+ghost use Rattle.git_status.specs.Refreshes.{IsRefreshExit, IsRefreshFailedExit};
 
-use crate::answer::Report;
 use crate::asked::{Asked, Question};
 use crate::dirty::report_failure;
-use crate::failure::Failure;
 use crate::fault_place::Search;
-use crate::found::{Found, print_index};
-use crate::kept::changed_bytes;
 use crate::read::ReadIndex;
 use crate::remarks::{Remarks, print_remarks};
 use git_attributes::AttributeFiles;
@@ -31,15 +27,6 @@ pub struct Refreshed<'b> {
     /// first of them was compared. Otherwise it mustn't be later than the old file either, so that what is racy stays racy.
     pub is_whole: bool,
     /// The bytes of the file's extensions. Nothing after a failure.
-    pub extensions: &'b [u8],
-}
-
-/// The result of a status, and the new bytes of the index file. None if it needn't change.
-#[derive(Debug, Drop)]
-pub struct RefreshedFile<'b> {
-    pub report: Report,
-    pub bytes: Option<Vec<u8>>,
-    pub is_whole: bool,
     pub extensions: &'b [u8],
 }
 
@@ -79,22 +66,10 @@ where
 {
     let remarks = Remarks::of(&asked.settings);
     let search = Search::of(&asked).ok();
-    match refresh_file(rt, &mut read, asked, output) {
-        Ok(
-            RefreshedFile {
-                report,
-                bytes,
-                is_whole,
-                extensions,
-            },
-        ) => {
+    match asked.refresh_file(rt, &mut read, output) {
+        Ok((report, refreshed)) => {
             print_remarks(rt.alloc(), remarks, &report, faults);
-            Refreshed {
-                status: u8::from(report.dirty),
-                bytes,
-                is_whole,
-                extensions,
-            }
+            refreshed
         }
         Err(failure) => Refreshed {
             status: report_failure(rt, &read.file.state, search, failure, faults),
@@ -103,53 +78,4 @@ where
             extensions: &[],
         },
     }
-}
-
-/// Prints the status of an index file that was read, stores its changes in the file, and returns its new bytes.
-///
-/// # Errors
-/// Those of `print_file`, or out of memory after all lines were printed.
-fn refresh_file<
-    'a,
-    'b,
-    R: AllocGlobal + Threads + Wait,
-    W: Worktree + Sync,
-    S: SubmoduleStatus + Send,
-    P: Pathspec + Send,
-    A: AttributeFiles,
-    O: io::Write,
->(
-    rt: &R,
-    read: &mut ReadIndex<'b>,
-    asked: Asked<'a, W, S, P, A>,
-    output: &mut O,
-) -> Result<RefreshedFile<'b>, Failure>
-where
-    W::File: Send,
-    S::Output: Send,
-    requires { IsRead asked.settings read.now }
-    ensures { IsRefresh (⟦<Asked<'a, W, S, P, A> as Question>⟧.asking asked.entry) read.old.bytes.now (O.contents output.old) result (O.contents output.new) }
-{
-    let alloc = rt.alloc();
-    let Found {
-        report,
-        changes,
-        is_whole,
-    } = print_index(rt, &read.file.state, asked, true, output)?;
-    let extensions = read.file.extensions;
-    if changes.is_empty() {
-        return Ok(RefreshedFile {
-            report,
-            bytes: None,
-            is_whole,
-            extensions,
-        });
-    }
-    let bytes = changed_bytes(alloc, &mut read.file, &changes)?;
-    Ok(RefreshedFile {
-        report,
-        bytes: Some(bytes),
-        is_whole,
-        extensions,
-    })
 }

@@ -57,10 +57,7 @@ impl From<FromHexError> for FieldError {
 pub fn text_of(value: &Value) -> Result<&str, FieldError>
     ensures { Reads (λ text. text.now) result (as_str (view value.now)) }
 {
-    match value.as_str() {
-        Some(text) => Ok(text),
-        None => Err(FieldError::Form),
-    }
+    value.as_str().ok_or(FieldError::Form)
 }
 
 /// Reads the text at a key, which may not be missing.
@@ -182,20 +179,14 @@ pub fn mode_at(object: &Value, key: &str) -> Result<Mode, FieldError>
     let Some(value) = object.get(key) else {
         return Ok(Mode::File);
     };
-    match mode_of_word(text_of(value)?) {
-        Some(mode) => Ok(mode),
-        None => Err(FieldError::Form),
-    }
+    mode_of_word(text_of(value)?).ok_or(FieldError::Form)
 }
 
 /// Reads an id, whose kind follows from the number of its hexadecimal digits.
 pub fn id_of(value: &Value) -> Result<ObjectId, FieldError>
     ensures { Reads (λ id. id) result (id_in (view value.now)) }
 {
-    match id_of_word(text_of(value)?) {
-        Some(id) => Ok(id),
-        None => Err(FieldError::Form),
-    }
+    id_of_word(text_of(value)?).ok_or(FieldError::Form)
 }
 
 /// Reads the id at a key, which may not be missing.

@@ -1,10 +1,12 @@
 //! Why a profile isn't read.
 
 ghost use Rattle.std.specs.Prelude.{◌≡◌};
+ghost use Rattle.status_profile.specs.Failures.{error_of_index, error_of_store};
+ghost use Rattle.status_profile.specs.declared.error.ProfileError.TheVariants.{Memory};
 
 use status_base::index::IndexError;
 use status_stored::StoreError;
-use std::alloc::{AllocError, AllocFailed};
+use std::alloc::AllocError;
 use std::fmt;
 use thiserror::Error;
 
@@ -59,9 +61,6 @@ pub enum ProfileError {
 }
 
 impl From<AllocError> for ProfileError {
-    ghost use Rattle.std.specs.Prelude.{◌≡◌};
-    ghost use Rattle.status_profile.specs.declared.error.ProfileError.TheVariants.{Memory};
-
     ghost from_gives = { λ _ e. e ≡ Memory };
 
     fn from(_error: AllocError) -> ProfileError {
@@ -69,38 +68,21 @@ impl From<AllocError> for ProfileError {
     }
 }
 
-impl<T: Drop> From<AllocFailed<T>> for ProfileError {
-    ghost use Rattle.std.specs.Prelude.{◌≡◌};
-    ghost use Rattle.status_profile.specs.declared.error.ProfileError.TheVariants.{Memory};
-
-    ghost from_gives = { λ _ e. e ≡ Memory };
-
-    fn from(_refused: AllocFailed<T>) -> ProfileError {
-        ProfileError::Memory
-    }
-}
-
-impl From<StoreError> for ProfileError {
-    ghost use Rattle.std.specs.Prelude.{◌≡◌};
-    ghost use Rattle.status_profile.specs.Failures.{error_of_store};
-
-    ghost from_gives = { λ error e. e ≡ error_of_store error };
-
-    fn from(error: StoreError) -> ProfileError {
+impl ProfileError {
+    /// Returns the error for an index that can't be stored.
+    pub fn of_store(error: StoreError) -> ProfileError
+        ensures { result ≡ error_of_store error }
+    {
         match error {
             StoreError::NotUtf8 { .. } => ProfileError::Bad(Key::Index),
             StoreError::Memory => ProfileError::Memory,
         }
     }
-}
 
-impl From<IndexError> for ProfileError {
-    ghost use Rattle.std.specs.Prelude.{◌≡◌};
-    ghost use Rattle.status_profile.specs.Failures.{error_of_index};
-
-    ghost from_gives = { λ refusal e. e ≡ error_of_index refusal };
-
-    fn from(error: IndexError) -> ProfileError {
+    /// Returns the error for entries that aren't an index.
+    pub fn of_index(error: IndexError) -> ProfileError
+        ensures { result ≡ error_of_index error }
+    {
         match error {
             IndexError::Memory => ProfileError::Memory,
             error => ProfileError::Index(error),

@@ -20,10 +20,7 @@ use status_index::Moment;
 pub fn truth_of(value: &Value) -> Result<bool, FieldError>
     ensures { Reads (λ b. b) result (as_bool (view value.now)) }
 {
-    match value.as_bool() {
-        Some(truth) => Ok(truth),
-        None => Err(FieldError::Form),
-    }
+    value.as_bool().ok_or(FieldError::Form)
 }
 
 /// Reads a moment: a number of seconds, or a list of seconds and nanoseconds.
@@ -53,10 +50,7 @@ pub fn limit_of(value: &Value) -> Result<Option<usize>, FieldError>
 pub fn required(value: Option<&Value>) -> Result<&Value, FieldError>
     ensures { Reads (λ v. view v.now) result (value_at value.entry) }
 {
-    match value {
-        Some(value) => Ok(value),
-        None => Err(FieldError::Form),
-    }
+    value.ok_or(FieldError::Form)
 }
 
 /// Reads a number, which is 0 if it is missing.
@@ -148,28 +142,19 @@ fn kind_of_word(word: &str) -> Option<NodeKind>
 pub fn hash_of(value: &Value) -> Result<HashKind, FieldError>
     ensures { Reads (λ h. h) result (hash_in (view value.now)) }
 {
-    match hash_of_word(text_of(value)?) {
-        Some(hash) => Ok(hash),
-        None => Err(FieldError::Form),
-    }
+    hash_of_word(text_of(value)?).ok_or(FieldError::Form)
 }
 
 /// Reads how files are compared.
 pub fn comparer_of(value: &Value) -> Result<Comparer, FieldError>
     ensures { Reads (λ c. c) result (comparer_in (view value.now)) }
 {
-    match comparer_of_word(text_of(value)?) {
-        Some(comparer) => Ok(comparer),
-        None => Err(FieldError::Form),
-    }
+    comparer_of_word(text_of(value)?).ok_or(FieldError::Form)
 }
 
 /// Reads the kind of a node.
 pub fn kind_of(value: &Value) -> Result<NodeKind, FieldError>
     ensures { Reads (λ k. k) result (kind_in (view value.now)) }
 {
-    match kind_of_word(text_of(value)?) {
-        Some(kind) => Ok(kind),
-        None => Err(FieldError::Form),
-    }
+    kind_of_word(text_of(value)?).ok_or(FieldError::Form)
 }

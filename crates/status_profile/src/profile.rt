@@ -70,12 +70,15 @@ impl Profile {
             entries,
             place,
         } = read_fields(alloc, value, kind)?;
-        Ok(Profile {
-            hash,
-            options,
-            index: State::from_entries(alloc, entries, timestamp)?,
-            place,
-        })
+        match State::from_entries(alloc, entries, timestamp) {
+            Ok(index) => Ok(Profile {
+                hash,
+                options,
+                index,
+                place,
+            }),
+            Err(error) => Err(ProfileError::of_index(error)),
+        }
     }
 }
 

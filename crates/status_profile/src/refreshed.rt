@@ -24,11 +24,14 @@ pub fn refreshed_text(alloc: Global, profile: Value, index: State) -> Result<Vec
         → IsLineOf (refreshed (view profile) (index_of index) (timestamp_of index)) line.items) }
     ensures err { IfErr result (IsUnwritten (index_of index)) }
 {
-    let refreshed = profile_with(alloc, profile, &index)?;
+    let refreshed = match profile_with(alloc, profile, &index) {
+        Ok(refreshed) => refreshed,
+        Err(error) => return Err(ProfileError::of_store(error)),
+    };
     // The text takes much memory too.
     drop(index);
     let mut text = refreshed.to_vec(alloc)?;
-    text.push(b'\n')?;
+    text.extend_from_slice(b"\n")?;
     Ok(text)
 }
 

@@ -158,7 +158,7 @@ fn assert_memory_before<R: AllocGlobal + Abort>(rt: &R) {
     let unwritten = io::Error::from(io::ErrorKind::OutOfMemory);
     assert_memory(rt, "writing", Failure::of_writing(unwritten));
     assert_memory(rt, "a profile", Failure::from(ProfileError::Memory));
-    let index = ProfileError::from(IndexError::Memory);
+    let index = ProfileError::of_index(IndexError::Memory);
     assert_memory(rt, "an index", Failure::from(index));
     assert_memory(rt, "a node", Failure::of_node(TreeError::Memory, 3));
     assert_memory(rt, "a start", Failure::of_start(Refusal::Memory));

@@ -64,31 +64,18 @@ impl World {
     {
         match start_refusal(clock, timestamp) {
             Some(refusal) => Err(refusal),
-            None => Ok(World::empty(alloc, kind, clock, timestamp, stat, executable_bit)),
-        }
-    }
-
-    fn empty(
-        alloc: Global,
-        kind: HashKind,
-        clock: Moment,
-        timestamp: Moment,
-        stat: stat::Options,
-        executable_bit: bool,
-    ) -> World
-        ensures { result ≡ empty_world kind stat executable_bit clock timestamp }
-    {
-        World {
-            parts: Parts {
-                alloc,
-                kind,
-                stat,
-                executable_bit,
-                clock,
-                worktree: MemoryWorktree::new(alloc),
-                index: State::new(alloc, timestamp),
-                staged: StagedFiles::new(alloc),
-            },
+            None => Ok(World {
+                parts: Parts {
+                    alloc,
+                    kind,
+                    stat,
+                    executable_bit,
+                    clock,
+                    worktree: MemoryWorktree::new(alloc),
+                    index: State::new(alloc, timestamp),
+                    staged: StagedFiles::new(alloc),
+                },
+            }),
         }
     }
 

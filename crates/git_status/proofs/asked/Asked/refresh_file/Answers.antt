@@ -1,11 +1,11 @@
-use Rattle.std.proofs.Common.{Some, None, ◌∙◌, sym, subst, arith}
+use Rattle.std.proofs.Common.{rules, Some, None, ◌∙◌, sym, subst, arith}
 use Rattle.std.proofs.lemmas.Bool.{eqb-true}
 use Rattle.std.proofs.lemmas.List.{nil_from_length}
 use Rattle.status_call.specs.IndexChanges.{AreInside}
 use Rattle.status_index.specs.States.{index_of}
 use Rattle.git_status.specs.Refreshes.{IsRefresh}
 use Rattle.git_status.proofs.Founds.{index_inside, late_file, not_empty, refreshed_file, unrefreshed_file}
-use Rattle.git_status.proofs.refresh.refresh_file.Goals as goal
+use Rattle.git_status.proofs.asked.Asked.refresh_file.Goals as goal
 
 pub returns-in_err-report : goal.returns-in_err-report
 returns-in_err-report g c =
@@ -18,9 +18,11 @@ pub returns-then-is_empty : goal.returns-then-is_empty
 unfolding IsRefresh
 returns-then-is_empty g c =
     let file = c.args.read.now.file in
-    let found = c.in_ok-report.field-0 in
-    refreshed_file _ c.args.read.now.bytes.now _ file.state file.version file.extensions.now c.requires.file c.requires.time found None _
-    (rw c.in_ok-report.was at c.print_index.ensures) (nil_from_length found.changes.items (omega (arith, eqb-true found.changes.len 0 (sym c.is_empty.ensures ∙ c.if-is_empty.true), found.changes.ok.0)))
+    let found = c.in_ok-report.field-0 in (
+      search rules,
+      refreshed_file _ c.args.read.now.bytes.now _ file.state file.version file.extensions.now c.requires.file c.requires.time found None _
+          (rw c.in_ok-report.was at c.print_index.ensures) (nil_from_length found.changes.items (omega (arith, eqb-true found.changes.len 0 (sym c.is_empty.ensures ∙ c.if-is_empty.true), found.changes.ok.0))),
+    )
 
 pub changed_bytes-requires-clause-inside : goal.changed_bytes-requires-clause-inside
 changed_bytes-requires-clause-inside g c =
@@ -40,9 +42,11 @@ unfolding IsRefresh
 returns g c =
     let file = c.args.read.now.file in
     let found = c.in_ok-report.field-0 in
-    let made = rw (c.deref.ensures.value, c.requires.kind) at c.in_ok-bytes.ensures in
-    refreshed_file _ c.args.read.now.bytes.now _ file.state file.version file.extensions.now c.requires.file c.requires.time found (Some c.in_ok-bytes.bytes.items) _
-    (rw c.in_ok-report.was at c.print_index.ensures) (
-      not_empty found.changes.items found.changes.len (omega (arith, found.changes.ok.0)) (sym c.is_empty.ensures ∙ c.if-is_empty.false),
-      record { has_checksum = file.has_checksum; sum = c.requires.sum; written = made.bytes; file = made.file; valid = made.valid },
+    let made = rw (c.deref.ensures.value, c.requires.kind) at c.in_ok-bytes.ensures in (
+      search rules,
+      refreshed_file _ c.args.read.now.bytes.now _ file.state file.version file.extensions.now c.requires.file c.requires.time found (Some c.in_ok-bytes.bytes.items) _
+          (rw c.in_ok-report.was at c.print_index.ensures) (
+            not_empty found.changes.items found.changes.len (omega (arith, found.changes.ok.0)) (sym c.is_empty.ensures ∙ c.if-is_empty.false),
+            record { has_checksum = file.has_checksum; sum = c.requires.sum; written = made.bytes; file = made.file; valid = made.valid },
+          ),
     )

@@ -6,7 +6,7 @@ use Rattle.git_index.specs.RawEntry.{raw_bytes}
 use Rattle.git_index.specs.File.{header_bytes}
 use Rattle.git_index.proofs.Written.{last_path_of}
 use Rattle.git_index.specs.Writing.{raw_entries}
-use Rattle.git_index.proofs.write.written.Given as goal
+use Rattle.git_index.proofs.write.write_index.Given as goal
 
 -- the entries passed so far are written, and this is the last one's path
 abbrev pub invariant-loop-entry : goal.invariant-loop-entry
