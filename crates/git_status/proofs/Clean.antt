@@ -17,7 +17,7 @@ use Rattle.status_compare.specs.declared.error.Error.{Error}
 use Rattle.status_index.specs.Entries.{IndexEntry}
 use Rattle.status_index.specs.declared.state.State.{State}
 use Rattle.std.proofs.Math.Logic.{∥∥₁_map}
-use Rattle.status_base.specs.Sights.{MayStat}
+use Rattle.status_call.specs.MayReturn.{MayReturn}
 use Rattle.status_call.specs.Views.{as_seen}
 use Rattle.git_status.specs.declared.lines.LineStyle.{LineStyle}
 use Rattle.git_status.specs.Runs.{Asking, CleanLaw, HasNoDifference, IsCommandEnd, IsExit, IsReport, IsCommandRun, IsSeenClean, IsStatusRun, NoneDiffers, is_difference}
@@ -86,7 +86,7 @@ module _ {T U : Type 0} where
   reported lines visits answer old r new (inl found) = found.1
   reported lines visits answer old r new (inr failed) = absurd failed
 
-  run_clean : (q : Query T U) (may : MayStat) (index : State) (s : Settings) (old : Option (List ℕ)) (r : Report) (new : Option (List ℕ)) → IsTrue q.modelled → IsStatusRun q may index s old (Ok r) new → r.dirty ≡ false
+  run_clean : (q : Query T U) (may : MayReturn U) (index : State) (s : Settings) (old : Option (List ℕ)) (r : Report) (new : Option (List ℕ)) → IsTrue q.modelled → IsStatusRun q may index s old (Ok r) new → r.dirty ≡ false
       → NoneDiffers q index
   run_clean q may index s old r new modelled run clean =
       met_clean q index run.visits run.answer r modelled run.computed.met (reported s.lines run.visits run.answer old r new run.ended) clean
@@ -108,4 +108,4 @@ module _ {T U : Type 0} where
   unfolding IsCommandRun
   clean_law a bytes modelled old new exit =
       let read = exit.2.0 in let asked = settings a.settings.options read.index in
-      (read, run_clean (a.query read.converting.filter asked) a.may_stat read.index a.settings old exit.0 new (modelled read.converting.filter asked) exit.2.1 exit.1)
+      (read, run_clean (a.query read.converting.filter asked) a.may_return read.index a.settings old exit.0 new (modelled read.converting.filter asked) exit.2.1 exit.1)

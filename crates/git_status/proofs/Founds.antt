@@ -11,7 +11,7 @@ use Rattle.status_call.specs.IndexChanges.{AreInside}
 use Rattle.status_index.specs.States.{index_of, timestamp_of}
 use Rattle.git_status.specs.declared.refresh.Refreshed.{Refreshed}
 use Rattle.status_call.specs.Counts.{skipped_of}
-use Rattle.status_base.specs.Sights.{MayStat}
+use Rattle.status_call.specs.MayReturn.{MayReturn}
 use Rattle.status_call.specs.Query.{Query}
 use Rattle.status_call.specs.Visits.{Visit}
 use Rattle.status_call.specs.declared.index_as_worktree.types.Outcome.{Outcome}
@@ -35,44 +35,44 @@ not_empty (x ∷ xs) n len none nil = absurd (cc)
 
 module _ {T U : Type 0} where
   -- the changes were found, if they are wanted
-  pub found_run : (wanted : Bool) (said : Said) (query : Query T U) (may : MayStat) (index : State) (s : Settings) (visits : List (Visit T U)) (answer : Result Outcome Error) (old : Option (List ℕ)) (found : Found) (new : Option (List ℕ))
+  pub found_run : (wanted : Bool) (said : Said) (query : Query T U) (may : MayReturn U) (index : State) (s : Settings) (visits : List (Visit T U)) (answer : Result Outcome Error) (old : Option (List ℕ)) (found : Found) (new : Option (List ℕ))
       → IsComputed query may index s answer visits → IsCommandEnd s.lines visits answer old (Ok found.report) new → (wanted ≡ true → IsFoundIn said visits found) → IsFoundRun wanted said query may index s old (Ok found) new
   found_run wanted said query may index s visits answer old found new computed ended kept = (record { visits = visits; answer = answer; computed = computed; ended = ended }, kept)
 
   -- the counts of skipped entries have a sum that fits
-  pub skipped_fits : (query : Query T U) (may : MayStat) (index : State) (s : Settings) (visits : List (Visit T U)) (answer : Result Outcome Error) (old : Option (List ℕ)) (r : Report) (new : Option (List ℕ))
+  pub skipped_fits : (query : Query T U) (may : MayReturn U) (index : State) (s : Settings) (visits : List (Visit T U)) (answer : Result Outcome Error) (old : Option (List ℕ)) (r : Report) (new : Option (List ℕ))
       → IsComputed query may index s answer visits → IsCommandEnd s.lines visits answer old (Ok r) new → skipped_of r.outcome < 2 ^ 64
   skipped_fits query may index s visits answer old r new computed (inl ended) = subst (λ a. IfOk a (λ o. skipped_of o < 2 ^ 64)) ended.1.outcome computed.met.fits
   skipped_fits query may index s visits answer old r new computed (inr failed) = absurd failed
 
   -- the status has no report
-  pub unfound_run : (wanted : Bool) (said : Said) (query : Query T U) (may : MayStat) (index : State) (s : Settings) (visits : List (Visit T U)) (answer : Result Outcome Error) (old : Option (List ℕ)) (f : Failure) (result : Result Found Failure) (new : Option (List ℕ))
+  pub unfound_run : (wanted : Bool) (said : Said) (query : Query T U) (may : MayReturn U) (index : State) (s : Settings) (visits : List (Visit T U)) (answer : Result Outcome Error) (old : Option (List ℕ)) (f : Failure) (result : Result Found Failure) (new : Option (List ℕ))
       → IsComputed query may index s answer visits → IsCommandEnd s.lines visits answer old (Err f) new → IsErrAnd result (λ e. e ≡ f) → IsFoundRun wanted said query may index s old result new
   unfound_run wanted said query may index s visits answer old f (Ok found) new computed ended failed = absurd failed
   unfound_run wanted said query may index s visits answer old f (Err e) new computed ended failed =
       inl (subst (λ e. IsStatusRun query may index s old (Err e) new) (sym failed) (status_run query may index s visits answer old (Err f) new computed ended))
 
   -- memory ran out after it, for the changes
-  pub late_run : (wanted : Bool) (said : Said) (query : Query T U) (may : MayStat) (index : State) (s : Settings) (visits : List (Visit T U)) (answer : Result Outcome Error) (old : Option (List ℕ)) (r : Report) (result : Result Found Failure) (new : Option (List ℕ))
+  pub late_run : (wanted : Bool) (said : Said) (query : Query T U) (may : MayReturn U) (index : State) (s : Settings) (visits : List (Visit T U)) (answer : Result Outcome Error) (old : Option (List ℕ)) (r : Report) (result : Result Found Failure) (new : Option (List ℕ))
       → IsComputed query may index s answer visits → IsCommandEnd s.lines visits answer old (Ok r) new → IsErrAnd result (λ e. e ≡ Memory) → wanted ≡ true → IsFoundRun wanted said query may index s old result new
   late_run wanted said query may index s visits answer old r (Ok found) new computed ended failed is = absurd failed
   late_run wanted said query may index s visits answer old r (Err e) new computed ended failed is = inr (r, status_run query may index s visits answer old (Ok r) new computed ended, failed, is)
 
   -- the changes that were found are of entries of the index
-  pub found_inside : (said : Said) (query : Query T U) (may : MayStat) (index : State) (s : Settings) (old : Option (List ℕ)) (found : Found) (new : Option (List ℕ)) → IsFoundRun true said query may index s old (Ok found) new → AreInside found.changes.items (index_of index)
+  pub found_inside : (said : Said) (query : Query T U) (may : MayReturn U) (index : State) (s : Settings) (old : Option (List ℕ)) (found : Found) (new : Option (List ℕ)) → IsFoundRun true said query may index s old (Ok found) new → AreInside found.changes.items (index_of index)
   found_inside said query may index s old found new run =
       subst (λ changes. AreInside changes (index_of index)) (sym (run.1 refl).0) (kept_inside said query index run.0.answer run.0.visits run.0.computed.met)
 
   -- an index whose line ends are converted, and the changes that its status asks for
   pub index_found : (wanted : Bool) (a : Asking T U) (index : State) (files : List File) (filter : LineEnds) (old : Option (List ℕ)) (result : Result Found Failure) (new : Option (List ℕ))
       → a.are_files index files → attributes_view filter.attributes.now ≡ attributes_of files → filter.auto ≡ a.settings.auto_line_ends → filter.index.now ≡ index → filter.kind ≡ a.settings.kind
-      → IsFoundRun wanted (attributes_view filter.attributes.now) (a.query filter (settings a.settings.options filter.index.now)) a.may_stat filter.index.now a.settings old result new → IsIndexFound wanted a index old result new
+      → IsFoundRun wanted (attributes_view filter.attributes.now) (a.query filter (settings a.settings.options filter.index.now)) a.may_return filter.index.now a.settings old result new → IsIndexFound wanted a index old result new
   unfolding IsIndexFound
   index_found wanted a index files filter old result new found attributes auto entries kind run =
       inl (
         record { files = files; found = found; filter = filter; attributes = attributes; auto = auto; entries = entries; kind = kind },
-        subst (λ said. IsFoundRun wanted said (a.query filter (settings a.settings.options index)) a.may_stat index a.settings old result new) attributes
-            (subst (λ at. IsFoundRun wanted (attributes_view filter.attributes.now) (a.query filter (settings a.settings.options at)) a.may_stat at a.settings old result new) entries run),
+        subst (λ said. IsFoundRun wanted said (a.query filter (settings a.settings.options index)) a.may_return index a.settings old result new) attributes
+            (subst (λ at. IsFoundRun wanted (attributes_view filter.attributes.now) (a.query filter (settings a.settings.options at)) a.may_return at a.settings old result new) entries run),
       )
 
   -- memory ran out before the status of an index
@@ -83,7 +83,7 @@ module _ {T U : Type 0} where
 
   -- what was found
   abbrev FoundIn : Bool → Asking T U → State → Option (List ℕ) → Found → Option (List ℕ) → Type 0
-  FoundIn wanted a index old found new = (c : Converting a index) × IsFoundRun wanted (attributes_of c.files) (a.query c.filter (settings a.settings.options index)) a.may_stat index a.settings old (Ok found) new
+  FoundIn wanted a index old found new = (c : Converting a index) × IsFoundRun wanted (attributes_of c.files) (a.query c.filter (settings a.settings.options index)) a.may_return index a.settings old (Ok found) new
 
   found_in : (wanted : Bool) (a : Asking T U) (index : State) (old : Option (List ℕ)) (found : Found) (new : Option (List ℕ))
       → IsIndexFound wanted a index old (Ok found) new → FoundIn wanted a index old found new
@@ -95,7 +95,7 @@ module _ {T U : Type 0} where
   pub index_inside : (a : Asking T U) (index : State) (old : Option (List ℕ)) (found : Found) (new : Option (List ℕ))
       → IsIndexFound true a index old (Ok found) new → AreInside found.changes.items (index_of index)
   index_inside a index old found new run =
-      let c = found_in true a index old found new run in found_inside (attributes_of c.0.files) (a.query c.0.filter (settings a.settings.options index)) a.may_stat index a.settings old found new c.1
+      let c = found_in true a index old found new run in found_inside (attributes_of c.0.files) (a.query c.0.filter (settings a.settings.options index)) a.may_return index a.settings old found new c.1
 
   module _ (a : Asking T U) (bytes : List ℕ) (old : Option (List ℕ)) (index : State) (version : ℕ) (extensions : List ℕ)
       (file : IsFileOf a.settings.kind bytes version (index_of index) extensions) (time : timestamp_of index ≡ a.settings.timestamp) where
@@ -130,7 +130,7 @@ module _ {T U : Type 0} where
         }
 
     -- a file that was read, and whose status fails, or memory ran out after it
-    unrefreshed : (f : Failure) (new : Option (List ℕ)) (c : Converting a index) → IsFoundRun true (attributes_of c.files) (a.query c.filter (settings a.settings.options index)) a.may_stat index a.settings old (Err f) new → IsUnrefreshed a bytes old f new
+    unrefreshed : (f : Failure) (new : Option (List ℕ)) (c : Converting a index) → IsFoundRun true (attributes_of c.files) (a.query c.filter (settings a.settings.options index)) a.may_return index a.settings old (Err f) new → IsUnrefreshed a bytes old f new
     unrefreshed f new c (inl run) = inl (file_run a bytes old (Err f) new (read_by c) run)
     unrefreshed f new c (inr late) = inr (late.0, file_run a bytes old (Ok late.0) new (read_by c) late.1, late.2)
 

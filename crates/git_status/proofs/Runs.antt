@@ -3,7 +3,7 @@ use Rattle.std.proofs.Common.{◌≡◌, ℕ, true, false, List, [], Option, Non
 use Rattle.std.specs.Prelude.{is_some}
 use Rattle.std.specs.Result.{IsErrAnd}
 use Rattle.status_call.specs.Inputs.{settings}
-use Rattle.status_base.specs.Sights.{MayStat}
+use Rattle.status_call.specs.MayReturn.{MayReturn}
 use Rattle.status_call.specs.Query.{Query}
 use Rattle.status_call.specs.StatusOf.{OneThreadSpawnsNone}
 use Rattle.status_call.specs.EntrySights.{IsViewAllowed}
@@ -21,24 +21,24 @@ use Rattle.git_status.specs.declared.failure.Failure.TheVariants.{Memory}
 
 module _ {T U : Type 0} where
   -- a status that was reported to an empty list
-  pub computed_from : (query : Query T U) (may : MayStat) (index : State) (s : Settings) (start visits : List (Visit T U)) (answer : Result Outcome Error)
-      → start ≡ [] → IsStatusReport query index start answer visits → ∥ IsStatusSeen query (λ _ view. IsViewAllowed may s.options.fscache view) index start answer visits ∥₁ → (is_some s.lines ≡ true → IfOk answer (λ o. o.interrupted ≡ false)) → OneThreadSpawnsNone query s.options.thread_limit answer
+  pub computed_from : (query : Query T U) (may : MayReturn U) (index : State) (s : Settings) (start visits : List (Visit T U)) (answer : Result Outcome Error)
+      → start ≡ [] → IsStatusReport query index start answer visits → ∥ IsStatusSeen query (IsViewAllowed may s.options.fscache) index start answer visits ∥₁ → (is_some s.lines ≡ true → IfOk answer (λ o. o.interrupted ≡ false)) → OneThreadSpawnsNone query s.options.thread_limit answer
       → IsComputed query may index s answer visits
   computed_from query may index s start visits answer empty met seen whole alone = record {
     met = subst (λ first. IsStatusReport query index first answer visits) empty met;
-    seen = subst (λ first. ∥ IsStatusSeen query (λ _ view. IsViewAllowed may s.options.fscache view) index first answer visits ∥₁) empty seen;
+    seen = subst (λ first. ∥ IsStatusSeen query (IsViewAllowed may s.options.fscache) index first answer visits ∥₁) empty seen;
     whole = whole;
     alone = alone;
   }
 
   -- a status that was computed, and how the command ended
-  pub status_run : (query : Query T U) (may : MayStat) (index : State) (s : Settings) (visits : List (Visit T U)) (answer : Result Outcome Error) (old : Option (List ℕ)) (result : Result Report Failure) (new : Option (List ℕ))
+  pub status_run : (query : Query T U) (may : MayReturn U) (index : State) (s : Settings) (visits : List (Visit T U)) (answer : Result Outcome Error) (old : Option (List ℕ)) (result : Result Report Failure) (new : Option (List ℕ))
       → IsComputed query may index s answer visits → IsCommandEnd s.lines visits answer old result new → IsStatusRun query may index s old result new
   status_run query may index s visits answer old result new computed ended = record { visits = visits; answer = answer; computed = computed; ended = ended }
 
   -- a file that was read, and the status of its index
   pub file_run : (a : Asking T U) (bytes : List ℕ) (old : Option (List ℕ)) (result : Result Report Failure) (new : Option (List ℕ)) (read : ReadFile a bytes)
-      → IsStatusRun (a.query read.converting.filter (settings a.settings.options read.index)) a.may_stat read.index a.settings old result new → IsCommandRun a bytes old result new
+      → IsStatusRun (a.query read.converting.filter (settings a.settings.options read.index)) a.may_return read.index a.settings old result new → IsCommandRun a bytes old result new
   unfolding IsCommandRun
   file_run a bytes old (Ok r) new read run = (read, run)
   file_run a bytes old (Err f) new read run = inl (read, run)

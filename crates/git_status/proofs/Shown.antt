@@ -17,7 +17,7 @@ use Rattle.status_index.specs.declared.state.State.{State}
 use Rattle.git_status.specs.Differences.{LinesLaw, PrintsSeen, difference_lines, entry_line, finding_line}
 use Rattle.git_status.specs.Lines.{status_line, visit_line, visit_lines}
 use Rattle.std.proofs.Math.Logic.{∥∥₁_map}
-use Rattle.status_base.specs.Sights.{MayStat}
+use Rattle.status_call.specs.MayReturn.{MayReturn}
 use Rattle.status_call.specs.Views.{as_seen}
 use Rattle.git_status.specs.Runs.{Asking, IsCommandEnd, IsCommandRun, IsExit, IsStatusRun, printed_text}
 use Rattle.git_status.specs.declared.asked.Settings.{Settings}
@@ -51,7 +51,7 @@ module _ {T U : Type 0} (style : LineStyle) (index : State) where
   printed s visits answer old r new loud (inr failed) = absurd failed
 
   -- those of a query whose results are known
-  known_lines : (q query : Query T U) (may : MayStat) (s : Settings) (old : Option (List ℕ)) (r : Report) (new : Option (List ℕ)) → IsTrue q.modelled → s.lines ≡ Some style → (run : IsStatusRun query may index s old (Ok r) new)
+  known_lines : (q query : Query T U) (may : MayReturn U) (s : Settings) (old : Option (List ℕ)) (r : Report) (new : Option (List ℕ)) → IsTrue q.modelled → s.lines ≡ Some style → (run : IsStatusRun query may index s old (Ok r) new)
       → IsStatusReport q index [] run.answer run.visits → Appends old new (difference_lines style q index)
   known_lines q query may s old r new modelled loud run met =
       let ended = printed s run.visits run.answer old r new loud run.ended in
@@ -63,7 +63,7 @@ module _ {T U : Type 0} where
   unfolding IsCommandRun
   lines_law a bytes modelled style loud dirty old new exit =
       let read = exit.2.0 in let asked = settings a.settings.options read.index in let q = a.query read.converting.filter asked in
-      (read, known_lines style read.index q q a.may_stat a.settings old exit.0 new (modelled read.converting.filter asked) loud exit.2.1 exit.2.1.computed.met)
+      (read, known_lines style read.index q q a.may_return a.settings old exit.0 new (modelled read.converting.filter asked) loud exit.2.1 exit.2.1.computed.met)
 
   -- by what was seen of each entry
   pub lines_seen : (a : Asking T U) (bytes : List ℕ) (style : LineStyle) → a.settings.lines ≡ Some style → (dirty : Bool) (old new : Option (List ℕ)) → IsExit a bytes dirty old new → PrintsSeen a style bytes old new
@@ -74,5 +74,5 @@ module _ {T U : Type 0} where
       let q = a.query read.converting.filter (settings a.settings.options read.index) in (
         read,
         ∥∥₁_map run.computed.seen (λ seen.
-            (record { views = seen.views; allowed = seen.allowed }, known_lines style read.index (as_seen q seen.views) q a.may_stat a.settings old exit.0 new refl loud run seen.report)),
+            (record { views = seen.views; allowed = seen.allowed }, known_lines style read.index (as_seen q seen.views) q a.may_return a.settings old exit.0 new refl loud run seen.report)),
       )

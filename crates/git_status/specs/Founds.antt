@@ -3,7 +3,7 @@ use Rattle.std.specs.Prelude.{◌≡◌, ◌⊎◌, ℕ, Bool, true, List, Optio
 use Rattle.std.specs.Result.{IsErrAnd}
 use Rattle.git_attributes.specs.Files.{Said, attributes_of}
 use Rattle.status_call.specs.Inputs.{settings}
-use Rattle.status_base.specs.Sights.{MayStat}
+use Rattle.status_call.specs.MayReturn.{MayReturn}
 use Rattle.status_call.specs.Query.{Query}
 use Rattle.status_call.specs.Visits.{Visit}
 use Rattle.status_index.specs.declared.state.State.{State}
@@ -22,11 +22,11 @@ module _ {T U : Type 0} where
 
   -- A status of this index was printed, with the changes that a refresh makes if they are wanted; or it failed; or memory ran out for the
   -- changes after it was printed.
-  abbrev pub IsFoundRun : Bool → Said → Query T U → MayStat → State → Settings → Option (List ℕ) → Result Found Failure → Option (List ℕ) → Type 0
+  abbrev pub IsFoundRun : Bool → Said → Query T U → MayReturn U → State → Settings → Option (List ℕ) → Result Found Failure → Option (List ℕ) → Type 0
   IsFoundRun wanted said query may index s old (Ok found) new = (run : IsStatusRun query may index s old (Ok found.report) new) × (wanted ≡ true → IsFoundIn said run.visits found)
   IsFoundRun wanted said query may index s old (Err f) new = IsStatusRun query may index s old (Err f) new ⊎ ((r : Report) × IsStatusRun query may index s old (Ok r) new × (f ≡ Memory) × (wanted ≡ true))
 
   -- The same, with line ends converted; or memory ran out before it.
   unfoldable pub IsIndexFound : Bool → Asking T U → State → Option (List ℕ) → Result Found Failure → Option (List ℕ) → Type 0
   IsIndexFound wanted a index old result new =
-      ((c : Converting a index) × IsFoundRun wanted (attributes_of c.files) (a.query c.filter (settings a.settings.options index)) a.may_stat index a.settings old result new) ⊎ (IsErrAnd result (λ f. f ≡ Memory) × (new ≡ old))
+      ((c : Converting a index) × IsFoundRun wanted (attributes_of c.files) (a.query c.filter (settings a.settings.options index)) a.may_return index a.settings old result new) ⊎ (IsErrAnd result (λ f. f ≡ Memory) × (new ≡ old))

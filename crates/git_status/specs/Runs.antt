@@ -9,7 +9,7 @@ use Rattle.git_attributes.specs.declared.line_ends.LineEnds.{LineEnds}
 use Rattle.git_index.specs.File.{IsFileOf}
 use Rattle.git_status.specs.Lines.{differs, visit_lines}
 use Rattle.git_status.specs.declared.lines.LineStyle.{LineStyle}
-use Rattle.status_base.specs.Sights.{MayStat}
+use Rattle.status_call.specs.MayReturn.{MayReturn}
 use Rattle.status_call.specs.EntrySights.{IsViewAllowed}
 use Rattle.status_call.specs.Inputs.{settings}
 use Rattle.status_call.specs.Query.{Query}
@@ -37,8 +37,8 @@ use Rattle.git_status.specs.declared.failure.Failure.TheVariants.{Interrupted, M
 pub record Asking (T U : Type 0) : Type 1 where
   pub query : LineEnds → StatusSettings → Query T U
   pub are_files : State → List File → Type 0
-  -- Which results the worktree's `lstat` may return.
-  pub may_stat : MayStat
+  -- Which results the worktree and the submodules may return.
+  pub may_return : MayReturn U
   pub settings : Settings
 
 -- Line ends are converted by what these attribute files say, which were found for this index, and by the settings.
@@ -101,14 +101,14 @@ module _ {T U : Type 0} where
 
   -- A status of this index was computed by this query, as the status theorem has it, and over any worktree by what was seen; it ends early
   -- only if the command is quiet; with one thread none is refused.
-  pub record IsComputed (query : Query T U) (may : MayStat) (index : State) (s : Settings) (answer : Result Outcome Error) (visits : List (Visit T U)) : Type 0 where
+  pub record IsComputed (query : Query T U) (may : MayReturn U) (index : State) (s : Settings) (answer : Result Outcome Error) (visits : List (Visit T U)) : Type 0 where
     pub met : IsStatusReport query index [] answer visits
-    pub seen : ∥ IsStatusSeen query (λ _ view. IsViewAllowed may s.options.fscache view) index [] answer visits ∥₁
+    pub seen : ∥ IsStatusSeen query (IsViewAllowed may s.options.fscache) index [] answer visits ∥₁
     pub whole : is_some s.lines ≡ true → IfOk answer (λ o. o.interrupted ≡ false)
     pub alone : OneThreadSpawnsNone query s.options.thread_limit answer
 
   -- A status of this index was computed, and the command ended so.
-  pub record IsStatusRun (query : Query T U) (may : MayStat) (index : State) (s : Settings) (old : Option (List ℕ)) (result : Result Report Failure) (new : Option (List ℕ)) : Type 0 where
+  pub record IsStatusRun (query : Query T U) (may : MayReturn U) (index : State) (s : Settings) (old : Option (List ℕ)) (result : Result Report Failure) (new : Option (List ℕ)) : Type 0 where
     pub visits : List (Visit T U)
     pub answer : Result Outcome Error
     pub computed : IsComputed query may index s answer visits
@@ -117,7 +117,7 @@ module _ {T U : Type 0} where
   -- The status of an index that was read was printed.
   abbrev pub IsFileRun : Asking T U → List ℕ → Option (List ℕ) → Result Report Failure → Option (List ℕ) → Type 0
   IsFileRun a bytes old result new =
-      (read : ReadFile a bytes) × IsStatusRun (a.query read.converting.filter (settings a.settings.options read.index)) a.may_stat read.index a.settings old result new
+      (read : ReadFile a bytes) × IsStatusRun (a.query read.converting.filter (settings a.settings.options read.index)) a.may_return read.index a.settings old result new
 
   -- The result of the command over the bytes of an index file that was read, and a worktree.
   unfoldable pub IsCommandRun : Asking T U → List ℕ → Option (List ℕ) → Result Report Failure → Option (List ℕ) → Type 0
@@ -149,7 +149,7 @@ module _ {T U : Type 0} where
   -- A status of an index that was read, by what was seen of each considered entry.
   pub record SeenBy (a : Asking T U) (index : State) (filter : LineEnds) : Type 0 where
     pub views : Views U
-    pub allowed : AllAllowed (λ _ view. IsViewAllowed a.may_stat a.settings.options.fscache view) (considered_entries (a.query filter (settings a.settings.options index)) index) views
+    pub allowed : AllAllowed (IsViewAllowed a.may_return a.settings.options.fscache) (considered_entries (a.query filter (settings a.settings.options index)) index) views
 
   -- The query of what was seen.
   abbrev pub seen_query : (a : Asking T U) (index : State) (filter : LineEnds) → SeenBy a index filter → Query T U

@@ -1,12 +1,13 @@
 //! The question that the command is asked: an index file's kind and time, a worktree, and how they are compared.
 
+ghost use Rattle.std.specs.FinMap as ids;
 ghost use Rattle.git_status.specs.Inputs.{asked_inputs};
 ghost use Rattle.git_status.specs.Runs.{Asking};
 
 use crate::lines::LineStyle;
 use crate::status::Compared;
 use git_attributes::AttributeFiles;
-use status_base::worktree::{Pathspec, SubmoduleStatus, Worktree};
+use status_base::worktree::{Find, MemoryObjects, Pathspec, SubmoduleStatus, Worktree};
 use status_call::index_as_worktree::Options;
 use status_call::index_as_worktree::inputs::Ask;
 use status_index::{HashKind, Moment};
@@ -61,7 +62,13 @@ impl<'a, W: Worktree, S: SubmoduleStatus, P: Pathspec, A: AttributeFiles> Questi
     ghost asking = { λ asked. record {
       query = λ filter. ⟦<Compared<'a, 'a, 'a, 'a, W, S, P> as Ask>⟧.query (asked_inputs asked filter);
       are_files = A.are_files asked.attributes;
-      may_stat = W.may_stat asked.worktree.now;
+      may_return = record {
+        stat = W.may_stat asked.worktree.now;
+        opened = W.may_open asked.worktree.now;
+        linked = W.may_link asked.worktree.now;
+        found = ⟦<MemoryObjects as Find>⟧.may_find ids.empty;
+        reported = S.may_report asked.submodules;
+      };
       settings = asked.settings;
     } };
 }

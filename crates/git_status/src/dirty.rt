@@ -31,8 +31,8 @@ use text_output::OutputError;
 /// or none if the reader of the output has ended. Lines that were printed before it stay. With `stats` a line on `faults`
 /// has the counts.
 ///
-/// This holds over any worktree, by what was seen: for each entry there are results that the worktree's `lstat` may return,
-/// and what the comparison and the submodule said, by which it differs exactly if it is listed.
+/// This holds over any worktree, by what was seen: for each entry there are results that the worktree and its submodules
+/// may return, of `lstat`, of reading the file or the link, and of the submodule, by which it differs exactly if it is listed.
 pub fn run_dirty<
     'a,
     R: AllocGlobal + Threads + Wait,

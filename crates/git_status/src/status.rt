@@ -75,7 +75,7 @@ pub(crate) fn compute<
 where
     W::File: Send,
     S::Output: Send,
-    ensures { IsComputed ((⟦<Asked<'a, W, S, P, A> as Question>⟧.asking asked.entry).query filter.entry (settings asked.entry.settings.options index.now)) (W.may_stat asked.entry.worktree.now) index.now asked.entry.settings result.answer (visits_of result.recorder) }
+    ensures { IsComputed ((⟦<Asked<'a, W, S, P, A> as Question>⟧.asking asked.entry).query filter.entry (settings asked.entry.settings.options index.now)) ((⟦<Asked<'a, W, S, P, A> as Question>⟧.asking asked.entry).may_return) index.now asked.entry.settings result.answer (visits_of result.recorder) }
 {
     let alloc = rt.alloc();
     let flag = AtomicBool::new(false);
