@@ -9,7 +9,7 @@ use Rattle.status_index.specs.declared.fault.Fault.TheVariants.{Memory}
 abbrev pub MayOpen : Type 1
 MayOpen = Result Content Fault → Type 0
 
--- An opened file gives only contents that may be read. A fault is one that opening may have.
+-- An opened file may have only contents that may be read. A fault is one that opening may have.
 abbrev pub IsOpenedSeen : {F : Type 0} → (F → MayGive) → MayOpen → Result F Fault → Type 0
 IsOpenedSeen gives may (Ok file) = (content : Content) → gives file content → may (Ok content)
 IsOpenedSeen gives may (Err f) = may (Err f)

@@ -17,8 +17,8 @@ IsConverted left (refused f) was (Err e) = (e ≡ f) ⊎ (e ≡ Memory)
 IsConverted left specified was (Err e) = e ≡ Memory
 IsConverted left specified was (Ok _) = ⊥
 
--- The outcome is the conversion of a content that the file may give, or memory ran out. A file that is returned unread gives only
--- contents that are stored unchanged.
+-- The outcome is the conversion of a content that the file may give, or memory ran out. A file that is returned unread may have
+-- only contents that are stored unchanged.
 abbrev pub IsConversionSeen : {F : Type 0} → (F → MayGive) → (Content → Conversion) → MayGive → Result (ToGitOutcome F) Fault → Type 0
 IsConversionSeen gives conversion may (Ok (Unchanged file)) = (content : Content) → gives file content → may content × (conversion content ≡ same)
 IsConversionSeen gives conversion may (Ok (Buffer buffer)) = (content : Content) × may content × (conversion content ≡ other buffer.now)

@@ -19,7 +19,7 @@ use Rattle.status_call.specs.Query.{Query}
 use Rattle.status_call.specs.Status.{reads_link, readings}
 use Rattle.status_call.specs.Views.{View, nothing_seen}
 
--- Counts that the comparer specifies, or else those that it made.
+-- Counts that the comparer specifies, or otherwise those that it made.
 read_or : (counted : Option Reads) (reads : Reads) → HasRead counted reads → reads ≡ unwrap_or counted reads
 read_or (Some k) reads h = h
 read_or None reads h = refl

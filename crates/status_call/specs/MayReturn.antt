@@ -20,7 +20,7 @@ pub record MayReturn (U : Type 0) : Type 1 where
   -- Of an entry's submodule.
   pub reported : IndexEntry → Result (Option U) (List ℕ) → Type 0
 
--- What the one may return, the other may.
+-- Each result that the one may return, the other may return too.
 pub record ReturnsWithin {U : Type 0} (less more : MayReturn U) : Type 0 where
   pub stat : (path : List ℕ) (r : Result Metadata Fault) → less.stat path r → more.stat path r
   pub opened : (path : List ℕ) (r : Result Content Fault) → less.opened path r → more.opened path r

@@ -1,4 +1,4 @@
--- What a reader may give whose content is known.
+-- The contents that a reader may give whose content is known.
 use Rattle.std.proofs.Common.{◌≡◌, ℕ, List, [], ◌++◌, take, inl, inr, refl, sym, ap, ◌∙◌, Option, Some, None, Result, Ok, Err}
 use Rattle.std.proofs.lemmas.List.{append_assoc}
 use Rattle.status_index.specs.declared.fault.Fault.{Fault}
@@ -14,7 +14,7 @@ same_content a b bytes fault = λ k. record { bytes = bytes k; fault = fault k }
 pub cut_at_once : (known : Content) → IsKnownOrCut known (no_bytes (Some Memory))
 cut_at_once known = inr (refl, (known.bytes, refl))
 
--- What may be given of the rest, may be given behind the bytes before it.
+-- What may be given of the rest, may be given after the bytes before it.
 pub given_behind : (old new : Content) (front : List ℕ) → old.bytes ≡ front ++ new.bytes → new.fault ≡ old.fault → Follows (IsKnownOrCut old) (IsKnownOrCut new) front
 given_behind old new front bytes fault content (inl h) =
     inl (same_content (behind front content) old (ap (λ (c : Content). front ++ c.bytes) h ∙ sym bytes) (ap (λ (c : Content). c.fault) h ∙ fault))

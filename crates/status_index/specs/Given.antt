@@ -19,11 +19,11 @@ AnyContent content = Unit {0}
 abbrev pub no_bytes : Option Fault → Content
 no_bytes end = record { bytes = []; fault = end }
 
--- A content behind some bytes.
+-- A content after some bytes.
 abbrev pub behind : List ℕ → Content → Content
 behind front content = record { bytes = front ++ content.bytes; fault = content.fault }
 
--- What a reader may yet give, it may have given before, behind these bytes.
+-- Each content that a reader may yet give is, after these bytes, one that it may have given before.
 abbrev pub Follows : MayGive → MayGive → List ℕ → Type 0
 Follows old new front = (content : Content) → new content → old (behind front content)
 
