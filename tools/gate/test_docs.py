@@ -204,8 +204,9 @@ class Docs(unittest.TestCase):
         traits = {}
         for path, text in texts_of("crates/*/src/**/*.rt").items():
             for trait, body in re.findall(r"^pub trait (\w+)[^\n]*\{\n(.*?)^\}", text, re.M | re.S):
-                members = re.findall(r"^    ghost (\w+): \{ (.*?) \}(?: = \{.*?\})?;$", body, re.M)
-                traits.setdefault(trait, []).append((path, set(members)))
+                members = re.findall(r"^    ghost (\w+): \{ (.*?) \}(?: = \{.*?\})?;$", body, re.M | re.S)
+                # A type may have several lines.
+                traits.setdefault(trait, []).append((path, {(member, " ".join(kind.split())) for member, kind in members}))
         rows = re.findall(r"^\| `([\w:]+)::(\w+)` \| `([^`]*)` \|", text_of("docs", "GHOST_MEMBERS.md"), re.M)
         shown = {}
         for trait, member, kind in rows:
