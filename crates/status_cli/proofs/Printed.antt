@@ -3,6 +3,7 @@ use Rattle.std.proofs.Common.{◌≡◌, ◌⊎◌, Bool, true, false, IfOk, sub
 use Rattle.std.specs.List.{flat_map}
 use Rattle.std.specs.Result.{IsErrAnd, IfErr}
 use Rattle.std.proofs.lemmas.List.{map-append}
+use Rattle.std.proofs.lemmas.List.Folds.{flat_map-map}
 use Rattle.std.specs.Io.KnownBytes.{Appends}
 use Rattle.std.proofs.KnownBytes.{Appends-trans}
 use Rattle.status_call.specs.declared.index_as_worktree.apply.ApplyChange.{ApplyChange}
@@ -50,6 +51,16 @@ fault_begun names text old new result (inr (is, all)) = inr (is, written_begun m
 flat_map-append : {A : Type 0} (f : A → List ℕ) (xs ys : List A) → flat_map f (xs ++ ys) ≡ flat_map f xs ++ flat_map f ys
 flat_map-append f [] ys = refl
 flat_map-append f (x ∷ xs) ys = ap (λ t. f x ++ t) (flat_map-append f xs ys) ∙ sym (append_assoc (f x) (flat_map f xs) (flat_map f ys))
+
+-- The lines of items are those of their values.
+pub lines_of_values : {A B : Type 0} (line : B → List ℕ) (view : A → B) (xs : List A) → flat_map (λ x. line (view x)) xs ≡ flat_map line (map view xs)
+lines_of_values line view xs = sym (flat_map-map line view xs)
+
+pub values_printed : {A B : Type 0} (line : B → List ℕ) (view : A → B) (xs : List A) (old new : Option (List ℕ)) → Appends old new (flat_map (λ x. line (view x)) xs) → Appends old new (flat_map line (map view xs))
+values_printed line view xs old new grew = subst (λ text. Appends old new text) (lines_of_values line view xs) grew
+
+pub values_begun : {A B : Type 0} (line : B → List ℕ) (view : A → B) (xs : List A) (old new : Option (List ℕ)) → IsBegun (flat_map (λ x. line (view x)) xs) old new → IsBegun (flat_map line (map view xs)) old new
+values_begun line view xs old new begun = subst (λ text. IsBegun text old new) (lines_of_values line view xs) begun
 
 module _ {A B : Type 0} (line : B → List ℕ) (view : A → B) where
   abbrev lines : List A → List ℕ

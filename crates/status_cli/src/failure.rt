@@ -2,7 +2,9 @@
 
 ghost use Rattle.std.specs.Prelude.{◌≡◌, ◌≢◌};
 ghost use Rattle.std.specs.IoError.{error_kind};
-ghost use Rattle.status_cli.specs.Failures.{failure_of_event, failure_of_node, failure_of_start, is_memory_error, is_memory_joined, is_memory_refusal};
+ghost use Rattle.status_cli.specs.Failures.{failure_of_event, failure_of_joined, failure_of_node, failure_of_profile, failure_of_start, failure_of_status};
+ghost use Rattle.status_cli.specs.Failures.{is_memory_error, is_memory_joined, is_memory_refusal};
+ghost use Rattle.status_cli.specs.declared.failure.Failure.TheVariants.{Memory, Output};
 
 use gix_status::index::IndexError;
 use gix_status::index_as_worktree::Error;
@@ -144,9 +146,6 @@ fn is_joined_memory(error: &JoinedError) -> bool
 }
 
 impl From<AllocError> for Failure {
-    ghost use Rattle.std.specs.Prelude.{◌≡◌};
-    ghost use Rattle.status_cli.specs.declared.failure.Failure.TheVariants.{Memory};
-
     ghost from_gives = { λ _ f. f ≡ Memory };
 
     fn from(_error: AllocError) -> Failure {
@@ -155,9 +154,6 @@ impl From<AllocError> for Failure {
 }
 
 impl From<OutputError> for Failure {
-    ghost use Rattle.std.specs.Prelude.{◌≡◌};
-    ghost use Rattle.status_cli.specs.declared.failure.Failure.TheVariants.{Output};
-
     ghost from_gives = { λ _ f. f ≡ Output };
 
     fn from(_error: OutputError) -> Failure {
@@ -166,9 +162,6 @@ impl From<OutputError> for Failure {
 }
 
 impl From<ProfileError> for Failure {
-    ghost use Rattle.std.specs.Prelude.{◌≡◌};
-    ghost use Rattle.status_cli.specs.Failures.{failure_of_profile};
-
     ghost from_gives = { λ e f. f ≡ failure_of_profile e };
 
     fn from(error: ProfileError) -> Failure {
@@ -180,9 +173,6 @@ impl From<ProfileError> for Failure {
 }
 
 impl From<Error> for Failure {
-    ghost use Rattle.std.specs.Prelude.{◌≡◌};
-    ghost use Rattle.status_cli.specs.Failures.{failure_of_status};
-
     ghost from_gives = { λ e f. f ≡ failure_of_status e };
 
     fn from(error: Error) -> Failure {
@@ -194,9 +184,6 @@ impl From<Error> for Failure {
 }
 
 impl From<JoinedError> for Failure {
-    ghost use Rattle.std.specs.Prelude.{◌≡◌};
-    ghost use Rattle.status_cli.specs.Failures.{failure_of_joined};
-
     ghost from_gives = { λ e f. f ≡ failure_of_joined e };
 
     fn from(error: JoinedError) -> Failure {

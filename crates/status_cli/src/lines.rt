@@ -179,38 +179,25 @@ impl<T: Drop, U: Drop> fmt::Display for StatusWords<'_, T, U> {
                 "conflict {}",
                 conflict_words(*summary)
             ),
-            EntryStatus::Change(change) => write!(f, "{}", ChangeWords(change)),
-            EntryStatus::NeedsUpdate(_) => f.write_str("update"),
-            EntryStatus::IntentToAdd => f.write_str("intent"),
-        }
-    }
-}
-
-/// The words for a change.
-#[derive(Drop)]
-struct ChangeWords<'a, T, U>(&'a Change<T, U>);
-
-impl<T: Drop, U: Drop> fmt::Display for ChangeWords<'_, T, U> {
-    ghost use Rattle.std.specs.Prelude.{Some};
-    ghost use Rattle.status_cli.specs.Lines.{change_text};
-
-    ghost output = { λ words. Some (change_text words.0.now) };
-
-    fn fmt<W: fmt::Write>(&self, f: &mut fmt::Formatter<W>) -> fmt::Result {
-        match self.0 {
-            Change::Removed => f.write_str("removed"),
-            Change::TypeChange { worktree_mode } => write!(f, "type {}", mode_word(*worktree_mode)),
-            Change::Modification {
-                executable_bit_changed,
-                content_change,
-                set_entry_stat_size_zero,
-            } => {
+            EntryStatus::Change(Change::Removed) => f.write_str("removed"),
+            EntryStatus::Change(Change::TypeChange { worktree_mode }) => {
+                write!(f, "type {}", mode_word(*worktree_mode))
+            }
+            EntryStatus::Change(
+                Change::Modification {
+                    executable_bit_changed,
+                    content_change,
+                    set_entry_stat_size_zero,
+                },
+            ) => {
                 let executable = letter(*executable_bit_changed, "x");
                 let content = letter(content_change.is_some(), "c");
                 let size = letter(*set_entry_stat_size_zero, "s");
                 write!(f, "modified {executable}{content}{size}")
             }
-            Change::SubmoduleModification(_) => f.write_str("submodule"),
+            EntryStatus::Change(Change::SubmoduleModification(_)) => f.write_str("submodule"),
+            EntryStatus::NeedsUpdate(_) => f.write_str("update"),
+            EntryStatus::IntentToAdd => f.write_str("intent"),
         }
     }
 }

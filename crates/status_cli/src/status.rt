@@ -14,13 +14,12 @@ mod closing;
 mod inputs;
 mod joined;
 mod plain;
+mod records;
 
 use crate::failure::Failure;
 use crate::output::read_all;
 use crate::status::inputs::{NoWalk, ProfileStatus, Request};
 pub use crate::status::inputs::{IndexChanges, WantedChanges};
-use crate::status::joined::print_joined;
-use crate::status::plain::print_plain;
 use bstr::BString;
 use gix_status::index_as_worktree::ApplyChange;
 use gix_status::walk::{UntrackedWalk, Walk};
@@ -214,8 +213,8 @@ where
         (walked_by K.walking status.entry (P.prefix pathspec) (P.included pathspec)) (O.contents output.old) (result_map vec_items result) (O.contents output.new) }
 {
     if status.request.options.is_joined() {
-        print_joined(rt, status, pathspec, output)?;
+        status.print_joined(rt, pathspec, output)?;
         return Ok(Vec::new(rt.alloc()));
     }
-    print_plain(rt, status, pathspec, output)
+    status.print_plain(rt, pathspec, output)
 }

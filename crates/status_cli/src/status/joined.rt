@@ -1,59 +1,54 @@
 //! The status of a profile with untracked files, renames or sorted lines.
 
-ghost use Rattle.std.specs.Prelude.{◌≡◌, map, IfOk};
+ghost use Rattle.std.specs.Prelude.{◌≡◌};
 ghost use Rattle.status_call.specs.Inputs.{usual};
-ghost use Rattle.status_joined.specs.Entries.{reported_entry};
 ghost use Rattle.status_profile.specs.Options.{option_values};
-ghost use Rattle.status_cli.specs.Printing.{IsPrinted};
 ghost use Rattle.status_cli.specs.ProfileStatuses.{IsJoinedOver, IsJoinedReported, asked_by, results_of, walked_by};
-ghost use Rattle.status_cli.specs.Statuses.{entry_lines, joined_answered, joined_options};
+ghost use Rattle.status_cli.specs.Statuses.{joined_answered, joined_options};
 
 use crate::failure::Failure;
-use crate::lines::push_entry;
-use crate::output::print;
 use crate::status::closing::print_closing;
 use crate::status::inputs::ProfileStatus;
+use crate::status::records::print_lines;
 use gix_status::index::HashKind;
 use gix_status::index_as_worktree;
 use gix_status::index_as_worktree::traits::CompareBlobs;
 use gix_status::index_as_worktree_with_renames::{
-    Context, DirwalkContext, Entry, Error, ExactClone, Options, Outcome, Recorder, Sorting,
-    VisitEntry, index_as_worktree_with_renames,
+    Context, DirwalkContext, Error, ExactClone, Options, Outcome, Recorder, Sorting, VisitEntry,
+    index_as_worktree_with_renames,
 };
 use gix_status::tracker::{IdentityTracker, Rewrites};
 use gix_status::walk::Walk;
 use gix_status::worktree::{MemoryObjects, NoFilter, NoLister, NoSubmodules, Pathspec, Worktree};
 use status_call::index_as_worktree::inputs::{Ask, UsualInputs};
 use status_profile::ProfileOptions;
-use std::alloc::{AllocError, Global};
+use std::alloc::Global;
 use std::io;
 use std::sync::Wait;
 use std::thread::Threads;
 
-/// Prints a status of these paths. If the status fails, the entries that the recorder holds are printed: those before
-/// one for which it had no memory, and none if the status fails otherwise.
-pub fn print_joined<
-    'a,
-    R: AllocGlobal + Threads + Wait,
-    W: Worktree + Sync,
-    K: Walk<W> + Send + Drop,
-    P: Pathspec + Send,
-    O: io::Write,
->(rt: &R, status: ProfileStatus<'a, W, K>, pathspec: P, output: &mut O) -> Result<(), Failure>
+impl<'a, W: Worktree + Sync, K: Walk<W> + Send + Drop> ProfileStatus<'a, W, K>
 where
     W::File: Send,
-    ensures { IsJoinedOver (results_of W.Worktree status.entry.worktree.now) (asked_by status.entry.request) (P.prefix pathspec) (P.included pathspec)
-        (walked_by K.walking status.entry (P.prefix pathspec) (P.included pathspec)) (O.contents output.old) result (O.contents output.new) }
 {
-    let alloc = rt.alloc();
-    let (counts, comparer) = (
-        status.request.options.counts,
-        status.request.options.comparer,
-    );
-    let mut recorder = Recorder::new(alloc);
-    let answer = report_joined(rt, alloc, status, &mut recorder, pathspec, comparer);
-    print_entries(alloc, recorder.records.as_slice(), output)?;
-    print_closing(alloc, with_failure(answer), counts, output)
+    /// Prints a status of these paths. If the status fails, the entries that the recorder holds are printed: those before
+    /// one for which it had no memory, and none if the status fails otherwise.
+    pub fn print_joined<R: AllocGlobal + Threads + Wait, P: Pathspec + Send, O: io::Write>(
+        self,
+        rt: &R,
+        pathspec: P,
+        output: &mut O,
+    ) -> Result<(), Failure>
+        ensures { IsJoinedOver (results_of W.Worktree self.entry.worktree.now) (asked_by self.entry.request) (P.prefix pathspec) (P.included pathspec)
+            (walked_by K.walking self.entry (P.prefix pathspec) (P.included pathspec)) (O.contents output.old) result (O.contents output.new) }
+    {
+        let alloc = rt.alloc();
+        let (counts, comparer) = (self.request.options.counts, self.request.options.comparer);
+        let mut recorder = Recorder::new(alloc);
+        let answer = report_joined(rt, alloc, self, &mut recorder, pathspec, comparer);
+        print_lines(alloc, recorder.records.as_slice(), output)?;
+        print_closing(alloc, with_failure(answer), counts, output)
+    }
 }
 
 /// Returns the outcome of the index's part, with the failure of an error.
@@ -128,30 +123,4 @@ fn joined_options(options: ProfileOptions, hash: HashKind) -> Options
         dirwalk: options.untracked,
         rewrites: options.renames.then_some(Rewrites { track_empty: false }),
     }
-}
-
-/// Prints a line for each entry.
-fn print_entries<T: Drop, U: Drop, O: io::Write>(
-    alloc: Global,
-    entries: &[Entry<'_, T, U>],
-    output: &mut O,
-) -> Result<(), Failure>
-    ensures { IsPrinted (entry_lines (map reported_entry entries.now)) (O.contents output.old) result (O.contents output.new) }
-{
-    let text = lines_of(alloc, entries)?;
-    print(&text, output)
-}
-
-/// Returns a line for each entry.
-fn lines_of<T: Drop, U: Drop>(
-    alloc: Global,
-    entries: &[Entry<'_, T, U>],
-) -> Result<Vec<u8>, AllocError>
-    ensures { IfOk result (λ text. text.items ≡ entry_lines (map reported_entry entries.now)) }
-{
-    let mut text = Vec::new(alloc);
-    for entry in entries {
-        push_entry(&mut text, alloc, entry)?;
-    }
-    Ok(text)
 }
