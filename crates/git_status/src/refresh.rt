@@ -1,9 +1,12 @@
 //! The command with the index file that it leaves: the stats of unchanged entries are renewed.
 
-ghost use Rattle.std.specs.Prelude.{◌≡◌, ◌≢◌, ◌⊎◌, ◌<◌, true, false, None};
+ghost use Rattle.std.specs.Prelude.{◌≡◌, ◌≢◌, ◌⊎◌, ◌<◌, Some, None, true, false};
+ghost use Rattle.git_status.specs.Differences.{PrintsSeen};
 ghost use Rattle.git_status.specs.Printing.{IsFaultLine};
 ghost use Rattle.git_status.specs.Reads.{IsRead};
 ghost use Rattle.git_status.specs.Refreshes.{IsRefreshExit, IsRefreshFailedExit};
+ghost use Rattle.git_status.specs.Runs.{IsSeenClean};
+ghost use Rattle.git_status.specs.declared.lines.LineStyle.{LineStyle};
 
 use crate::asked::{Asked, Question};
 use crate::dirty::report_failure;
@@ -58,6 +61,9 @@ where
     requires { IsRead asked.settings read }
     ensures status { (result.status ≡ 0) ⊎ ((result.status ≡ 1) ⊎ (result.status ≡ 2)) }
     ensures clean { result.status ≡ 0 → IsRefreshExit (⟦<Asked<'a, W, S, P, A> as Question>⟧.asking asked.entry) read.entry.bytes.now false result (O.contents output.old) (O.contents output.new) }
+    ensures clean_seen { result.status ≡ 0 → IsSeenClean (⟦<Asked<'a, W, S, P, A> as Question>⟧.asking asked.entry) read.entry.bytes.now }
+    ensures lines_seen { result.status ≢ 2 → (style : LineStyle) → asked.entry.settings.lines ≡ Some style
+        → PrintsSeen (⟦<Asked<'a, W, S, P, A> as Question>⟧.asking asked.entry) style read.entry.bytes.now (O.contents output.old) (O.contents output.new) }
     ensures dirty { result.status ≡ 1 → IsRefreshExit (⟦<Asked<'a, W, S, P, A> as Question>⟧.asking asked.entry) read.entry.bytes.now true result (O.contents output.old) (O.contents output.new) }
     ensures failed { result.status ≡ 2 → IsRefreshFailedExit (⟦<Asked<'a, W, S, P, A> as Question>⟧.asking asked.entry) read.entry.bytes.now (O.contents output.old) (O.contents output.new) }
     ensures unwritten { result.status ≡ 2 → result.bytes ≡ None }
