@@ -7,7 +7,9 @@ ghost use Rattle.git_status.specs.Runs.{Asking};
 use crate::lines::LineStyle;
 use crate::status::Compared;
 use git_attributes::AttributeFiles;
-use status_base::worktree::{Find, MemoryObjects, Pathspec, SubmoduleStatus, Worktree};
+use status_base::worktree::{
+    Find, Lister, MemoryObjects, NoLister, Pathspec, SubmoduleStatus, Worktree,
+};
 use status_call::index_as_worktree::Options;
 use status_call::index_as_worktree::inputs::Ask;
 use status_index::{HashKind, Moment};
@@ -66,6 +68,7 @@ impl<'a, W: Worktree, S: SubmoduleStatus, P: Pathspec, A: AttributeFiles> Questi
         stat = W.may_stat asked.worktree.now;
         opened = W.may_open asked.worktree.now;
         linked = W.may_link asked.worktree.now;
+        listed = ⟦<NoLister as Lister>⟧.may_list (record {});
         found = ⟦<MemoryObjects as Find>⟧.may_find ids.empty;
         reported = S.may_report asked.submodules;
       };

@@ -18,8 +18,8 @@ use Rattle.std.proofs.lemmas.Bool.Decides.{same_from_decides, Decides-eqb}
 use Rattle.std.proofs.lemmas.List.Sums.{suffix_len_is}
 use Rattle.std.proofs.lemmas.Slice.Eq.{bytes_eq-Decides}
 use Rattle.status_base.specs.Paths.{is_slash}
-use Rattle.status_base.specs.ListedNodes.{Listing, directory_of, file_name_of, later_or, stat_named}
-use Rattle.status_base.specs.ListingTable.{Names, Table, stat_of_name, stat_in_table, is_empty, needs_none, IsPutUnless, HasListedOnce, AreNamesOf, HasListedNames}
+use Rattle.status_base.specs.ListedNodes.{Listing, MayList, directory_of, file_name_of, later_or, stat_in_listing, stat_named}
+use Rattle.status_base.specs.ListingTable.{Names, Table, stat_of_name, stat_in_table, is_empty, needs_none, IsPutUnless, HasListedOnce, AreNamesOf, AreNamesSeen, HasListedNames, HasListedSeen, IsStatListed}
 use Rattle.status_base.specs.MemoryTree.{PathMap}
 use Rattle.status_base.specs.PathTables.{keyed, map_of}
 use Rattle.status_base.specs.declared.fscache.Stat.{Stat}
@@ -220,3 +220,37 @@ put-HasListedNames listing m k names of are q =
       | true ↦ λ t. subst (λ (x : List ℕ). AreNamesOf (listing x) names) (sym (same_path q k t)) are
       | false ↦ λ t. of q
     ] refl)
+
+-- ---- tables of listings that may be returned
+
+pub empty-HasListedSeen : (may : MayList) → HasListedSeen may paths.empty
+empty-HasListedSeen may directory = subst (λ (o : Option Names). IfSome o (AreNamesSeen may directory)) (sym (paths.get-empty (slice_cmp nat_cmp) directory)) tt
+
+-- such a table with one more listing
+pub put-HasListedSeen : (may : MayList) (m : Table) (k : List ℕ) (names : Names) → HasListedSeen may m → AreNamesSeen may k names → HasListedSeen may (paths.insert m k names)
+put-HasListedSeen may m k names of are q =
+    let Is : Option Names → Type 0 = λ o. IfSome o (AreNamesSeen may q) in
+    subst Is (sym (paths.get-insert nat_list_cmp_total m k names q))
+    (elim (tied q k) as (λ b. tied q k ≡ b → Is (cond b (Some names) (paths.get m q))) [
+      | true ↦ λ t. subst (λ (x : List ℕ). AreNamesSeen may x names) (sym (same_path q k t)) are
+      | false ↦ λ t. of q
+    ] refl)
+
+-- the stat that names have for a path
+pub named_seen : (may : MayList) (path name : List ℕ) (o : Option Names) → name ≡ file_name_of path → IfSome o (AreNamesSeen may (directory_of path)) → IfSome (stat_of_name name o) (IsStatListed may path)
+named_seen may path [] o at h = tt
+named_seen may path (b ∷ name) None at h = tt
+named_seen may path (b ∷ name) (Some names) at h = stat_seen (paths.get names (b ∷ name)) refl
+  where
+    stat_seen : (s : Option Stat) → s ≡ paths.get names (b ∷ name) → IfSome s (IsStatListed may path)
+    stat_seen None is = tt
+    stat_seen (Some x) is = record {
+      listing = h.listing;
+      allowed = h.allowed;
+      has = ap (stat_in_listing h.listing) (sym at) ∙ sym (h.names_of (b ∷ name)) ∙ sym is;
+    }
+
+-- the stat that such a table has for a path
+pub seen_in_table : (may : MayList) (table : Table) (path : List ℕ) (stat : Option Stat) → HasListedSeen may table → stat ≡ stat_in_table table path → IfSome stat (IsStatListed may path)
+seen_in_table may table path stat seen is =
+    subst (λ (s : Option Stat). IfSome s (IsStatListed may path)) (sym is) (named_seen may path (file_name_of path) (paths.get table (directory_of path)) refl (seen (directory_of path)))

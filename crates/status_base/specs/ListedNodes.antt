@@ -12,6 +12,10 @@ use Rattle.status_base.specs.declared.fscache.Stat.{Stat}
 abbrev pub Listing : Type 0
 Listing = Option (List (List ℕ × Stat))
 
+-- Which listings of a directory may be returned.
+abbrev pub MayList : Type 1
+MayList = List ℕ → Listing → Type 0
+
 -- A path is split at its last slash. A path without a slash is a file name in the root, whose path is empty.
 abbrev pub file_name_of : List ℕ → List ℕ
 file_name_of path = after_last is_slash path

@@ -1,7 +1,7 @@
 -- A table of the directories that were listed.
 use Rattle.std.specs.Prelude.{◌≡◌, ℕ, Bool, true, false, ◌||◌, List, [], ◌∷◌, Option, Some, None, IfSome, is_some}
 use Rattle.std.specs.FinMap as paths
-use Rattle.status_base.specs.ListedNodes.{Listing, directory_of, file_name_of, stat_in_listing}
+use Rattle.status_base.specs.ListedNodes.{Listing, MayList, directory_of, file_name_of, stat_in_listing}
 use Rattle.status_base.specs.MemoryTree.{PathMap}
 use Rattle.status_base.specs.declared.fscache.Stat.{Stat}
 
@@ -47,3 +47,19 @@ AreNamesOf listing names = (name : List ℕ) → stat_of_name name (Some names) 
 -- For each of its directories a table has the names of the directory's listing.
 abbrev pub HasListedNames : (List ℕ → Listing) → Table → Type 0
 HasListedNames listing table = (directory : List ℕ) → IfSome (paths.get table directory) (AreNamesOf (listing directory))
+
+-- These are the names of a listing of the directory that may be returned.
+pub record AreNamesSeen (may : MayList) (directory : List ℕ) (names : Names) : Type 0 where
+  pub listing : Listing
+  pub allowed : may directory listing
+  pub names_of : AreNamesOf listing names
+
+-- For each of its directories a table has the names of a listing that may be returned.
+abbrev pub HasListedSeen : MayList → Table → Type 0
+HasListedSeen may table = (directory : List ℕ) → IfSome (paths.get table directory) (AreNamesSeen may directory)
+
+-- A listing of the path's directory that may be returned has this stat for the path.
+pub record IsStatListed (may : MayList) (path : List ℕ) (stat : Stat) : Type 0 where
+  pub listing : Listing
+  pub allowed : may (directory_of path) listing
+  pub has : stat_in_listing listing (file_name_of path) ≡ Some stat

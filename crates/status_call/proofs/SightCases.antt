@@ -1,5 +1,5 @@
 -- The look-up of a path and the comparison of a content, by a view.
-use Rattle.std.proofs.Common.{◌≡◌, ◌⊎◌, refl, sym, ap, ◌∙◌, subst, ℕ, List, Bool, true, false, not, ◌&&◌, ◌||◌, inl, inr, Option, Some, None, is_some, Result, Ok, Err, IsTrue, if◌then◌else◌}
+use Rattle.std.proofs.Common.{◌≡◌, ◌⊎◌, refl, sym, ap, ◌∙◌, subst, ℕ, List, Bool, true, false, not, ◌&&◌, ◌||◌, inl, inr, Option, Some, None, IfSome, is_some, Result, Ok, Err, IsTrue, if◌then◌else◌}
 use Rattle.status_index.specs.declared.fault.Fault.{Fault}
 use Rattle.status_index.specs.declared.stat.Metadata.{Metadata}
 use Rattle.status_index.specs.declared.stat.Stat.{Stat}
@@ -7,6 +7,7 @@ use Rattle.status_index.specs.Entries.{IndexEntry}
 use Rattle.status_index.specs.Mode.{is_submodule}
 use Rattle.status_index.specs.Stat.{is_racy}
 use Rattle.status_base.specs.LinkCheck.{LinkCheck, accepted, link_check}
+use Rattle.status_base.specs.ListedNodes.{MayList}
 use Rattle.status_base.specs.Sights.{AreAllowed, MayStat, Stats}
 use Rattle.status_base.proofs.SightLemmas.{answer_here, link_check_with_answer, with_answer, with_answer_allowed}
 use Rattle.status_compare.specs.declared.error.Error.{Error}
@@ -21,27 +22,27 @@ use Rattle.status_call.specs.declared.index_as_worktree.lookup.AtPath.TheVariant
 use Rattle.status_call.specs.declared.index_as_worktree.types.EntryStatus.{EntryStatus}
 use Rattle.status_call.specs.Counts.{calls_lstat, is_accepted, is_compared_case, is_racy_case, reads_of_found}
 use Rattle.status_call.specs.EntryParts.{IsCaseDecided, IsLook, IsOfCase, found_presence}
-use Rattle.status_call.specs.EntrySights.{IsContentAllowed, IsDirectorySeen, IsLookSeen, IsSubmoduleSeen, IsViewAllowed}
+use Rattle.status_call.specs.EntrySights.{IsContentAllowed, IsDirectorySeen, IsLookSeen, IsNodeListed, IsSubmoduleSeen, IsViewAllowed}
 use Rattle.status_call.specs.MayReturn.{MayReturn}
 use Rattle.status_call.specs.Query.{Query}
 use Rattle.status_call.specs.Status.{Case, Found, answer, cached_or, case_of_content, case_of_found, compared, directory, directory_case, found, found_by, found_node, gone, in_submodule, is_trusted, readings, refused, unchanged}
 use Rattle.status_call.specs.Views.{IsSeenDecided, View, as_seen, nothing_seen}
 use Rattle.status_call.proofs.EntryCases.{calls_comparer, counted_look, is_decided}
 
-module _ (may : MayStat) (fscache : Bool) (path : List ℕ) where
+module _ (may : MayStat) (may_list : MayList) (fscache : Bool) (path : List ℕ) where
   -- If no directory bars the way, the node decides: one that a listing knows, or the result of `lstat`.
-  pub seen_accepted : (lstat : Stats) (listed : Option Metadata) (result : Result Look Error) → AreAllowed may lstat → (fscache ≡ false → listed ≡ None) → link_check lstat path ≡ accepted
-      → IsLook (found_node (cached_or listed (lstat path))) (not (is_some listed)) result → IsLookSeen may fscache path result
-  seen_accepted lstat listed result allowed unlisted verified look =
+  pub seen_accepted : (lstat : Stats) (listed : Option Metadata) (result : Result Look Error) → AreAllowed may lstat → (fscache ≡ false → listed ≡ None) → IfSome listed (IsNodeListed may_list path) → link_check lstat path ≡ accepted
+      → IsLook (found_node (cached_or listed (lstat path))) (not (is_some listed)) result → IsLookSeen may may_list fscache path result
+  seen_accepted lstat listed result allowed unlisted node verified look =
       let P : LinkCheck → Type 0 = λ k. IsLook (found_by k (cached_or listed (lstat path))) (is_accepted k && not (is_some listed)) result in
-      record { lstat = lstat; listed = listed; allowed = allowed; unlisted = unlisted; look = subst P (sym verified) look }
+      record { lstat = lstat; listed = listed; allowed = allowed; unlisted = unlisted; node = node; look = subst P (sym verified) look }
 
   -- `lstat` was called at the path.
   pub seen_live : (answer : Result Metadata Fault) (lstat : Stats) (result : Result Look Error) → may path answer → AreAllowed may lstat → link_check lstat path ≡ accepted
-      → IsLook (found_node answer) true result → IsLookSeen may fscache path result
+      → IsLook (found_node answer) true result → IsLookSeen may may_list fscache path result
   seen_live answer lstat result here allowed verified look =
       let Q : Result Metadata Fault → Type 0 = λ r. IsLook (found_node r) true result in
-      seen_accepted (with_answer path answer lstat) None result (with_answer_allowed may path answer lstat here allowed) (λ _. refl)
+      seen_accepted (with_answer path answer lstat) None result (with_answer_allowed may path answer lstat here allowed) (λ _. refl) tt
       (link_check_with_answer path answer lstat ∙ verified) (subst Q (sym (answer_here path answer lstat)) look)
 
 -- The case of an entry for which nothing was read.
@@ -115,7 +116,7 @@ module _ {T U : Type 0} (q : Query T U) (e : IndexEntry) where
 
   module _ (may : MayReturn U) (fscache : Bool) (free : IsViewAllowed may fscache e nothing_seen) where
     -- The look-up of the path failed.
-    module _ (error : Error) (s : IsLookSeen may.stat fscache e.path (Err error)) where
+    module _ (error : Error) (s : IsLookSeen may.stat may.listed fscache e.path (Err error)) where
       abbrev refused_view : View U
       refused_view = record nothing_seen { lstat = s.lstat; listed = s.listed }
 
@@ -125,6 +126,7 @@ module _ {T U : Type 0} (q : Query T U) (e : IndexEntry) where
         allowed = record {
           stats = s.allowed;
           unlisted = s.unlisted;
+          node = s.node;
           content = record { opened = free.content.opened; linked = free.content.linked; blob = free.content.blob };
           submodule = λ there _. refused_directory _ (found (as_seen q (λ _. refused_view)) e) h.0 h.1 there;
         };
@@ -136,7 +138,7 @@ module _ {T U : Type 0} (q : Query T U) (e : IndexEntry) where
       seen_refused = refused_look s.look
 
   -- The decision for what was found at the path, by a view's contents and by what its submodule said.
-  module _ (may : MayReturn U) (fscache : Bool) (look : Look) (p : AtPath) (is : look.presence ≡ p) (s : IsLookSeen may.stat fscache e.path (Ok look)) where
+  module _ (may : MayReturn U) (fscache : Bool) (look : Look) (p : AtPath) (is : look.presence ≡ p) (s : IsLookSeen may.stat may.listed fscache e.path (Ok look)) where
     abbrev pub view_with : View U → View U
     view_with v = record v { lstat = s.lstat; listed = s.listed }
 
@@ -148,7 +150,7 @@ module _ {T U : Type 0} (q : Query T U) (e : IndexEntry) where
         let same : found (as_seen q (λ _. view)) e ≡ found_presence p = s.look.0 ∙ ap found_presence is in
         record {
           view = view;
-          allowed = record { stats = s.allowed; unlisted = s.unlisted; content = record { opened = content.opened; linked = content.linked; blob = content.blob }; submodule = λ there. said (sym same ∙ there) };
+          allowed = record { stats = s.allowed; unlisted = s.unlisted; node = s.node; content = record { opened = content.opened; linked = content.linked; blob = content.blob }; submodule = λ there. said (sym same ∙ there) };
           decided = is_decided (as_seen q (λ _. view)) e (found_presence p) look.lstat_called (Some (reads_of_found (as_seen q (λ _. view)) e (found_presence p))) r
               same (sym s.look.1) (λ _. refl) h;
         }

@@ -1,6 +1,6 @@
 -- Views of the entries before a position and of those from it on, as one view of each entry, and records and counts by views that
 -- agree.
-use Rattle.std.proofs.Common.{◌≡◌, refl, sym, ap, ◌∙◌, subst, ℕ, ◌+◌, ◌<◌, ◌≤◌, inl, inr, Bool, true, false, ◌&&◌, ◌==◌, if◌then◌else◌, List, [], ◌∷◌, ◌++◌, length, take, slice_index_or, All, sum_by, Option, Result, arith}
+use Rattle.std.proofs.Common.{◌≡◌, refl, sym, ap, ◌∙◌, subst, ℕ, ◌+◌, ◌<◌, ◌≤◌, inl, inr, Bool, true, false, ◌&&◌, ◌==◌, if◌then◌else◌, List, [], ◌∷◌, ◌++◌, length, take, slice_index_or, All, sum_by, Option, Some, None, IfSome, Result, arith}
 use Rattle.std.specs.List.{list_any, cons_option}
 use Rattle.std.proofs.lemmas.Bool.{and_from, and_left, and_right, cases_Bool, ne_eqb, eq-eqb}
 use Rattle.std.proofs.lemmas.List.Elements.{All-head, All-tail, All-weaker}
@@ -10,12 +10,14 @@ use Rattle.std.proofs.lemmas.List.{length-take, get_or-take, get_or_default}
 use Rattle.status_index.specs.Content.{saturate}
 use Rattle.status_index.specs.Entries.{IndexEntry, IsIndex, stage_of}
 use Rattle.status_index.specs.Stretch.{part_of}
+use Rattle.status_index.specs.declared.stat.Metadata.{Metadata}
+use Rattle.status_base.specs.ListedNodes.{Listing, MayList, directory_of}
 use Rattle.status_compare.specs.declared.error.Error.{Error}
 use Rattle.status_call.specs.declared.index_as_worktree.counts.Totals.{Totals}
 use Rattle.status_call.specs.declared.index_as_worktree.types.EntryStatus.{EntryStatus}
 use Rattle.status_call.specs.declared.index_as_worktree.types.Finding.{Finding}
 use Rattle.status_call.specs.Considered.{same_path}
-use Rattle.status_call.specs.EntrySights.{IsViewAllowed}
+use Rattle.status_call.specs.EntrySights.{IsNodeListed, IsViewAllowed}
 use Rattle.status_call.specs.MayReturn.{MayReturn, ReturnsWithin}
 use Rattle.status_call.specs.Counts.{calls_lstat, counts_in, is_looked_at, is_racy_case, is_update, reads_in, reads_of}
 use Rattle.status_call.specs.Pieces.{IsAsSpecified, IsFaultAt}
@@ -69,11 +71,17 @@ module _ (es : List IndexEntry) (index : IsIndex es) where
             let P : IndexEntry → Type 0 = λ e. same_place (at i f) e ≡ false in
             subst P (get_or_default es k f d inside) (apart i k f (omega arith) inside)
 
+-- A node that a listing knows, if more listings may be returned.
+pub node_within : {less more : MayList} (path : List ℕ) → ((directory : List ℕ) (listing : Listing) → less directory listing → more directory listing) → (listed : Option Metadata) → IfSome listed (IsNodeListed less path) → IfSome listed (IsNodeListed more path)
+node_within path within None h = tt
+node_within path within (Some n) h = record { listing = h.listing; allowed = within (directory_of path) h.listing h.allowed; node = h.node }
+
 -- A view by which less may be returned is allowed if more may be.
 pub allowed_within : {U : Type 0} {less more : MayReturn U} (e : IndexEntry) (view : View U) (fscache : Bool) → ReturnsWithin less more → IsViewAllowed less fscache e view → IsViewAllowed more fscache e view
 allowed_within e view fscache within h = record {
   stats = λ path. within.stat path (view.lstat path) (h.stats path);
   unlisted = h.unlisted;
+  node = node_within e.path within.listed view.listed h.node;
   content = record {
     opened = within.opened e.path view.opened h.content.opened;
     linked = within.linked e.path view.linked h.content.linked;

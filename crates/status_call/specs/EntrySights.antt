@@ -1,5 +1,5 @@
 -- One entry over any worktree: its look-up, the comparison of its content, and its submodule.
-use Rattle.std.specs.Prelude.{◌≡◌, ◌⊎◌, ℕ, Bool, true, false, IsTrue, List, [], Option, Some, None, unwrap_or, Result, Err}
+use Rattle.std.specs.Prelude.{◌≡◌, ◌⊎◌, ℕ, Bool, true, false, IsTrue, List, [], Option, Some, None, IfSome, unwrap_or, Result, Err}
 use Rattle.status_index.specs.Content.{Content}
 use Rattle.status_index.specs.declared.stat.Metadata.{Metadata}
 use Rattle.status_index.specs.declared.stat.Stat.{Stat}
@@ -7,6 +7,7 @@ use Rattle.status_index.specs.Entries.{IndexEntry}
 use Rattle.status_index.specs.Mode.{is_submodule}
 use Rattle.status_base.specs.Conversions.{Conversion}
 use Rattle.status_base.specs.LinkCheck.{link_check}
+use Rattle.status_base.specs.ListedNodes.{Listing, MayList, directory_of, known_node}
 use Rattle.status_base.specs.Sights.{MayStat, Stats, AreAllowed}
 use Rattle.status_compare.specs.declared.error.Error.{Error}
 use Rattle.status_compare.specs.declared.error.Error.TheVariants.{Memory}
@@ -34,20 +35,29 @@ pub record IsContentAllowed {U : Type 0} (may : MayReturn U) (e : IndexEntry) (v
 abbrev pub node_seen : {U : Type 0} → IndexEntry → View U → Found
 node_seen e view = found_by (link_check view.lstat e.path) (cached_or view.listed (view.lstat e.path))
 
+-- A listing of the path's directory that may be returned knows this node at the path.
+pub record IsNodeListed (may : MayList) (path : List ℕ) (n : Metadata) : Type 0 where
+  pub listing : Listing
+  pub allowed : may (directory_of path) listing
+  pub node : known_node true (λ _. listing) path ≡ Some n
+
 -- A view of an entry is allowed if each of its results may be returned. The submodule's has to be only if a directory is at a
--- submodule's entry. No listing is used unless that is asked for; which nodes it may know isn't stated.
+-- submodule's entry. No listing is used unless that is asked for. A node that a listing knows is one of a listing of the path's
+-- directory that may be returned.
 pub record IsViewAllowed {U : Type 0} (may : MayReturn U) (fscache : Bool) (e : IndexEntry) (view : View U) : Type 0 where
   pub stats : AreAllowed may.stat view.lstat
   pub unlisted : fscache ≡ false → view.listed ≡ None
+  pub node : IfSome view.listed (IsNodeListed may.listed e.path)
   pub content : IsContentAllowed may e view
   pub submodule : node_seen e view ≡ directory → IsTrue (is_submodule e.mode) → may.reported e view.submodule
 
--- The look-up of a path is the specified one for results that `lstat` may return, and for a node that a listing may know.
-pub record IsLookSeen (may : MayStat) (fscache : Bool) (path : List ℕ) (result : Result Look Error) : Type 0 where
+-- The look-up of a path is the specified one for results that `lstat` may return, and for a node of a listing that may be returned.
+pub record IsLookSeen (may : MayStat) (may_list : MayList) (fscache : Bool) (path : List ℕ) (result : Result Look Error) : Type 0 where
   pub lstat : Stats
   pub listed : Option Metadata
   pub allowed : AreAllowed may lstat
   pub unlisted : fscache ≡ false → listed ≡ None
+  pub node : IfSome listed (IsNodeListed may_list path)
   pub look : IsLookAt lstat listed path result
 
 -- The status of a submodule's entry is that of what the submodule may report.

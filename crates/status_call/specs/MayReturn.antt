@@ -5,6 +5,7 @@ use Rattle.status_index.specs.Entries.{IndexEntry}
 use Rattle.status_index.specs.declared.fault.Fault.{Fault}
 use Rattle.status_index.specs.declared.id.ObjectId.{ObjectId}
 use Rattle.status_index.specs.declared.stat.Metadata.{Metadata}
+use Rattle.status_base.specs.ListedNodes.{Listing, MayList}
 use Rattle.status_base.specs.Openings.{MayOpen}
 use Rattle.status_base.specs.Sights.{MayStat}
 use Rattle.status_base.specs.declared.worktree.objects.FindError.{FindError}
@@ -15,6 +16,8 @@ pub record MayReturn (U : Type 0) : Type 1 where
   pub stat : MayStat
   pub opened : List ℕ → MayOpen
   pub linked : List ℕ → Result (List ℕ) Fault → Type 0
+  -- Of listing a directory.
+  pub listed : MayList
   -- Of finding a blob.
   pub found : ObjectId → Result (List ℕ) FindError → Type 0
   -- Of an entry's submodule.
@@ -25,5 +28,6 @@ pub record ReturnsWithin {U : Type 0} (less more : MayReturn U) : Type 0 where
   pub stat : (path : List ℕ) (r : Result Metadata Fault) → less.stat path r → more.stat path r
   pub opened : (path : List ℕ) (r : Result Content Fault) → less.opened path r → more.opened path r
   pub linked : (path : List ℕ) (r : Result (List ℕ) Fault) → less.linked path r → more.linked path r
+  pub listed : (directory : List ℕ) (listing : Listing) → less.listed directory listing → more.listed directory listing
   pub found : (id : ObjectId) (r : Result (List ℕ) FindError) → less.found id r → more.found id r
   pub reported : (e : IndexEntry) (r : Result (Option U) (List ℕ)) → less.reported e r → more.reported e r

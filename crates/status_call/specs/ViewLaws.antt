@@ -39,6 +39,7 @@ pub free_view : {U : Type 0} (may : MayReturn U) (fscache : Bool) (e : IndexEntr
 free_view may fscache e stat opened linked found = record {
   stats = stat;
   unlisted = λ _. refl;
+  node = tt;
   content = record { opened = opened; linked = linked; blob = found };
   submodule = λ there. no_directory e.path there;
 }

@@ -29,6 +29,8 @@ impl<'a> Lister for Directories<'a> {
 
     ghost clone_keeps_listing = { λ _ _ _. refl };
 
+    ghost clone_lists_within = { λ _ _ _ _ _ _. tt };
+
     fn list(&self, directory: BStr<'_>) -> Result<Listing, AllocError> {
         for (path, names) in self.directories {
             if let (true, Some(names)) = (path.as_bytes() == directory.as_bytes(), names) {
@@ -64,6 +66,8 @@ impl<'a> Lister for FolderLister<'a> {
     ghost clone_keeps_modelled = { λ _ _ _. refl };
 
     ghost clone_keeps_listing = { λ _ _ _. refl };
+
+    ghost clone_lists_within = { λ _ _ _ _ _ _. tt };
 
     fn list(&self, directory: BStr<'_>) -> Result<Listing, AllocError> {
         match listed_below(self.rt, self.root, directory) {

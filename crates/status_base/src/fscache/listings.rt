@@ -1,11 +1,11 @@
 //! The table of directories that were listed, and the cache of one lister's listings.
 
-ghost use Rattle.std.specs.Prelude.{◌≡◌, IfOk, OnOk, OnErr, IsTrue};
+ghost use Rattle.std.specs.Prelude.{◌≡◌, IfOk, IfSome, OnOk, OnErr, IsTrue};
 ghost use Rattle.std.specs.Option.{option_map};
 ghost use Rattle.std.specs.FinMap as paths;
 ghost use Rattle.bstr.specs.BStr.{bstr_bytes};
 ghost use Rattle.status_base.specs.ListedNodes.{directory_of, file_name_of, listed};
-ghost use Rattle.status_base.specs.ListingTable.{stat_in_table, HasListedOnce, HasListedNames};
+ghost use Rattle.status_base.specs.ListingTable.{stat_in_table, HasListedOnce, HasListedNames, HasListedSeen, IsStatListed};
 ghost use Rattle.std.proofs.Props.{props};
 
 use crate::fscache::Stat;
@@ -61,6 +61,9 @@ impl Listings {
         ensures listed { IsTrue (L.modelled lister.now) → HasListedNames (L.listing lister.now) self.old
             → IfOk result (λ stat. stat ≡ listed (L.listing lister.now) (bstr_bytes path.entry)) }
         ensures kept { IsTrue (L.modelled lister.now) → HasListedNames (L.listing lister.now) self.old → HasListedNames (L.listing lister.now) self.new }
+        ensures seen { HasListedSeen (L.may_list lister.now) self.old
+            → IfOk result (λ stat. IfSome stat (IsStatListed (L.may_list lister.now) (bstr_bytes path.entry))) }
+        ensures seen_kept { HasListedSeen (L.may_list lister.now) self.old → HasListedSeen (L.may_list lister.now) self.new }
     {
         let (directory, name) = split_at_last_slash(path.as_bytes());
         if name.is_empty() {

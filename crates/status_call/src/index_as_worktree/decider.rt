@@ -5,6 +5,7 @@ ghost use Rattle.std.proofs.Props.{props};
 ghost use Rattle.bstr.specs.BStr.{bstr_bytes};
 ghost use Rattle.status_base.specs.CheckState.{IsClear};
 ghost use Rattle.status_base.specs.ListedNodes.{known_node};
+ghost use Rattle.status_base.specs.ListingTable.{HasListedSeen};
 ghost use Rattle.status_base.specs.Sights.{IsOpen};
 ghost use Rattle.status_index.specs.Entries.{entry_at};
 ghost use Rattle.status_call.specs.EntrySights.{IsContentSeen, IsDirectorySeen, IsLookSeen, IsNodeSeen};
@@ -32,7 +33,7 @@ use std::alloc::{AllocError, Global};
 
 /// Decides entries over a worktree. It keeps its buffers and listings, so an entry whose stat decides takes no memory,
 /// unless its directory has to be listed first. For each directory that its check found open, the worktree returned a result
-/// that shows this.
+/// that shows this. The names of each directory that it listed are of a listing that the lister may return.
 #[derive(Drop)]
 pub struct Decider<'w, W: Worktree, C, S, O, P, T, L: Lister> {
     alloc: Global,
@@ -43,6 +44,7 @@ pub struct Decider<'w, W: Worktree, C, S, O, P, T, L: Lister> {
     ghost clear: { IsTrue (W.modelled inputs.worktree.now)
         → IsClear (W.lstat_of inputs.worktree.now) known.check.path },
     ghost opened: { ∥ IsOpen (W.may_stat inputs.worktree.now) known.check.path ∥₁ },
+    ghost listed: { ∥ HasListedSeen (L.may_list inputs.lister) known.listings ∥₁ },
     ghost kept: { Keeps (L.modelled inputs.lister)
         (L.listing inputs.lister) known.listings } by { Prim.hlevel props },
 }
@@ -95,8 +97,8 @@ where
             → IsLookAt (W.lstat_of self.old.inputs.worktree.now)
             (known_node self.old.settings.fscache (L.listing self.old.inputs.lister) (bstr_bytes path.entry))
             (bstr_bytes path.entry) result }
-        ensures seen { ∥ IsLookSeen (W.may_stat self.old.inputs.worktree.now) self.old.settings.fscache
-            (bstr_bytes path.entry) result ∥₁ }
+        ensures seen { ∥ IsLookSeen (W.may_stat self.old.inputs.worktree.now)
+            (L.may_list self.old.inputs.lister) self.old.settings.fscache (bstr_bytes path.entry) result ∥₁ }
         ensures inputs { self.new.inputs ≡ self.old.inputs }
         ensures settings { self.new.settings ≡ self.old.settings }
     {

@@ -164,6 +164,7 @@ impl<
       stat = W.may_stat i.worktree.now;
       opened = W.may_open i.worktree.now;
       linked = W.may_link i.worktree.now;
+      listed = L.may_list i.lister;
       found = O.may_find i.objects;
       reported = S.may_report i.submodule;
     } };

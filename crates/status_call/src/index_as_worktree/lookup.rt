@@ -1,15 +1,16 @@
 //! The look-up of the node at an entry's path.
 
-ghost use Rattle.std.specs.Prelude.{◌≡◌, ◌&&◌, Bool, false, IfOk, IsTrue, None, Ok, Result};
+ghost use Rattle.std.specs.Prelude.{◌≡◌, ◌&&◌, Bool, false, IfOk, IfSome, IsTrue, None, Ok, Result};
 ghost use Rattle.bstr.specs.BStr.{bstr_bytes};
 ghost use Rattle.status_base.specs.CheckState.{IsClear};
 ghost use Rattle.status_base.specs.LinkCheck.{LinkCheck};
 ghost use Rattle.status_base.specs.CheckAnswers.{IsCheckError};
 ghost use Rattle.status_index.specs.declared.stat.Metadata.{Metadata as NodeMetadata};
 ghost use Rattle.status_index.specs.declared.fault.Fault.{Fault as WorktreeFault};
+ghost use Rattle.status_base.specs.ListingTable.{HasListedSeen};
 ghost use Rattle.status_base.specs.Sights.{IsOpen};
 ghost use Rattle.status_call.specs.EntryParts.{IsLook};
-ghost use Rattle.status_call.specs.EntrySights.{IsLookSeen};
+ghost use Rattle.status_call.specs.EntrySights.{IsLookSeen, IsNodeListed};
 ghost use Rattle.status_call.specs.Counts.{is_accepted};
 ghost use Rattle.status_call.specs.LookUps.{IsLookUp, IsKnownByListings, Keeps};
 ghost use Rattle.status_call.specs.Status.{found_by, found_fault, found_node};
@@ -67,7 +68,8 @@ pub(crate) fn look_up<W: Worktree, L: Lister>(
         (bstr_bytes path.entry)
         (W.lstat_of worktree.now) known.old.check.path result }
     ensures seen { IsOpen (W.may_stat worktree.now) known.old.check.path
-        → IsLookSeen (W.may_stat worktree.now) fscache (bstr_bytes path.entry) result }
+        → HasListedSeen (L.may_list lister.now) known.old.listings
+        → IsLookSeen (W.may_stat worktree.now) (L.may_list lister.now) fscache (bstr_bytes path.entry) result }
     ensures opened { IsOpen (W.may_stat worktree.now) known.old.check.path
         → IsOpen (W.may_stat worktree.now) known.new.check.path }
     ensures clear { IsTrue (W.modelled worktree.now)
@@ -75,6 +77,8 @@ pub(crate) fn look_up<W: Worktree, L: Lister>(
         → IsClear (W.lstat_of worktree.now) known.new.check.path }
     ensures kept { Keeps (L.modelled lister.now) (L.listing lister.now) known.old.listings
         → Keeps (L.modelled lister.now) (L.listing lister.now) known.new.listings }
+    ensures seen_kept { HasListedSeen (L.may_list lister.now) known.old.listings
+        → HasListedSeen (L.may_list lister.now) known.new.listings }
 {
     if let Err(error) = known.check.verified_path(worktree, path) {
         return look_refused(error);
@@ -103,6 +107,10 @@ fn known_at<L: Lister>(
     ensures unlisted { fscache ≡ false → IfOk result (λ node. node ≡ None) }
     ensures kept { Keeps (L.modelled lister.now) (L.listing lister.now) listings.old
         → Keeps (L.modelled lister.now) (L.listing lister.now) listings.new }
+    ensures seen { HasListedSeen (L.may_list lister.now) listings.old
+        → IfOk result (λ node. IfSome node (IsNodeListed (L.may_list lister.now) (bstr_bytes path.entry))) }
+    ensures seen_kept { HasListedSeen (L.may_list lister.now) listings.old
+        → HasListedSeen (L.may_list lister.now) listings.new }
 {
     if !fscache {
         return Ok(None);

@@ -126,6 +126,8 @@ impl<'a, L: Lister + Copy> Lister for CountingLister<'a, L> {
 
     ghost clone_keeps_listing = { λ _ _ _. refl };
 
+    ghost clone_lists_within = { λ _ _ _ _ _ _. tt };
+
     fn list(&self, directory: BStr<'_>) -> Result<Listing, AllocError> {
         self.calls.fetch_add(1, Ordering::SeqCst);
         if let Some(refuses) = self.refuses {

@@ -33,28 +33,29 @@ returns-in-Ok-clause-look g c =
     (sym (c.in_ok-node.ensures.known listings kept) ∙ c.in_default-2.is) (live_answer (lstat path) c.in-Ok.node (c.in-Ok.ensures.answer reported)) c.look_at-in-Ok.ensures
 
 pub returns-in-Err-clause-seen : goal.returns-in-Err-clause-seen
-returns-in-Err-clause-seen g c = λ opened.
+returns-in-Err-clause-seen g c = λ opened listed.
     let check = c.in-Err.ensures.seen opened in
     record {
       lstat = check.lstat;
       listed = None;
       allowed = check.allowed;
       unlisted = λ _. refl;
+      node = tt;
       look = c.look_refused.ensures (link_check check.lstat (bstr_bytes c.args.path)) (check.lstat (bstr_bytes c.args.path)) true check.checked;
     }
 
 pub returns-in-Some-clause-seen : goal.returns-in-Some-clause-seen
-returns-in-Some-clause-seen g c = λ opened.
+returns-in-Some-clause-seen g c = λ opened listed.
     let check = c.in_default.ensures.seen opened in
-    seen_accepted (g.W.Worktree.may_stat c.args.worktree.now) c.args.fscache (bstr_bytes c.args.path) check.lstat (Some c.in-Some.node) _ check.allowed
-    (λ off. sym c.in-Some.is ∙ c.in_ok-node.ensures.unlisted off) check.checked c.look_at.ensures
+    seen_accepted (g.W.Worktree.may_stat c.args.worktree.now) (g.L.Lister.may_list c.args.lister.now) c.args.fscache (bstr_bytes c.args.path) check.lstat (Some c.in-Some.node) _ check.allowed
+    (λ off. sym c.in-Some.is ∙ c.in_ok-node.ensures.unlisted off) (rw c.in-Some.is at (c.in_ok-node.ensures.seen listed)) check.checked c.look_at.ensures
 
 pub returns-in-Ok-clause-seen : goal.returns-in-Ok-clause-seen
-returns-in-Ok-clause-seen g c = λ opened.
+returns-in-Ok-clause-seen g c = λ opened listed.
     let check = c.in_default.ensures.seen opened in
-    seen_live (g.W.Worktree.may_stat c.args.worktree.now) c.args.fscache (bstr_bytes c.args.path) (Ok c.in-Ok.node) check.lstat _ c.in-Ok.ensures.seen check.allowed check.checked c.look_at-in-Ok.ensures
+    seen_live (g.W.Worktree.may_stat c.args.worktree.now) (g.L.Lister.may_list c.args.lister.now) c.args.fscache (bstr_bytes c.args.path) (Ok c.in-Ok.node) check.lstat _ c.in-Ok.ensures.seen check.allowed check.checked c.look_at-in-Ok.ensures
 
 pub returns-in-Err-lstat-clause-seen : goal.returns-in-Err-lstat-clause-seen
-returns-in-Err-lstat-clause-seen g c = λ opened.
+returns-in-Err-lstat-clause-seen g c = λ opened listed.
     let check = c.in_default.ensures.seen opened in
-    seen_live (g.W.Worktree.may_stat c.args.worktree.now) c.args.fscache (bstr_bytes c.args.path) (Err c.in-Err-lstat.fault) check.lstat _ c.in-Err-lstat.ensures.seen check.allowed check.checked c.look_at_fault.ensures
+    seen_live (g.W.Worktree.may_stat c.args.worktree.now) (g.L.Lister.may_list c.args.lister.now) c.args.fscache (bstr_bytes c.args.path) (Err c.in-Err-lstat.fault) check.lstat _ c.in-Err-lstat.ensures.seen check.allowed check.checked c.look_at_fault.ensures

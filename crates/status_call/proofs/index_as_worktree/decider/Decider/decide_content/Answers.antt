@@ -14,7 +14,7 @@ use Rattle.status_call.proofs.SightCases.{comparison_failed, unread_of_case}
 use Rattle.status_call.proofs.index_as_worktree.decider.Decider.decide_content.Goals as goal
 
 pub invariant_of-self : goal.invariant_of-self
-invariant_of-self g c = record { clear = rw c.compare_node.ensures.only c.args.self.now.clear; opened = rw c.compare_node.ensures.only c.args.self.now.opened; kept = rw c.compare_node.ensures.only c.args.self.now.kept }
+invariant_of-self g c = record { clear = rw c.compare_node.ensures.only c.args.self.now.clear; opened = rw c.compare_node.ensures.only c.args.self.now.opened; listed = rw c.compare_node.ensures.only c.args.self.now.listed; kept = rw c.compare_node.ensures.only c.args.self.now.kept }
 
 pub returns-in_err-comparison-clause-same : goal.returns-in_err-comparison-clause-same
 returns-in_err-comparison-clause-same g c =

@@ -1,4 +1,4 @@
-use Rattle.std.proofs.Math.Logic.{∥∥₁_map}
+use Rattle.std.proofs.Math.Logic.{∥∥₁_map, ∥∥₁_map₂}
 use Rattle.status_call.specs.Modelled.{are_modelled}
 use Rattle.status_call.proofs.EntryCases.{all_worktree, all_listings}
 use Rattle.status_call.proofs.index_as_worktree.decider.Decider.look.Goals as goal
@@ -7,6 +7,7 @@ pub invariant_of-self : goal.invariant_of-self
 invariant_of-self g c = record {
   clear = λ modelled. c.look_up.ensures.clear modelled (c.args.self.now.clear modelled);
   opened = ∥∥₁_map c.args.self.now.opened c.look_up.ensures.opened;
+  listed = ∥∥₁_map c.args.self.now.listed c.look_up.ensures.seen_kept;
   kept = c.look_up.ensures.kept c.args.self.now.kept;
 }
 
@@ -22,4 +23,4 @@ returns-clause-look g c =
     c.look_up.ensures.look worktree (all_listings a b d l modelled) (c.args.self.now.clear worktree) c.args.self.now.kept
 
 pub returns-clause-seen : goal.returns-clause-seen
-returns-clause-seen g c = ∥∥₁_map c.args.self.now.opened c.look_up.ensures.seen
+returns-clause-seen g c = ∥∥₁_map₂ c.args.self.now.opened c.args.self.now.listed c.look_up.ensures.seen

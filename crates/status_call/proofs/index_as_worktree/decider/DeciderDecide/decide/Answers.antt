@@ -166,7 +166,7 @@ pub returns-in_err-presence-clause-seen : goal.returns-in_err-presence-clause-se
 returns-in_err-presence-clause-seen g c =
     let i = c.args.self.now.inputs in
     let e = entry_at (bstr_bytes c.args.path) c.args.entry.now in
-    let may : MayReturn g.row.S-Output.Denot = record { stat = g.W.Worktree.may_stat i.worktree.now; opened = g.W.Worktree.may_open i.worktree.now; linked = g.W.Worktree.may_link i.worktree.now; found = g.O.Find.may_find i.objects; reported = g.S.SubmoduleStatus.may_report i.submodule } in
+    let may : MayReturn g.row.S-Output.Denot = record { stat = g.W.Worktree.may_stat i.worktree.now; opened = g.W.Worktree.may_open i.worktree.now; linked = g.W.Worktree.may_link i.worktree.now; listed = g.L.Lister.may_list i.lister; found = g.O.Find.may_find i.objects; reported = g.S.SubmoduleStatus.may_report i.submodule } in
     let free = free_view may c.args.self.now.settings.fscache e (g.met.W.Worktree.stat_may_fail i.worktree.now) (g.met.W.Worktree.open_may_fail i.worktree.now e.path) (g.met.W.Worktree.link_may_fail i.worktree.now e.path) (g.met.O.Find.find_may_fail i.objects e.id) in
     let p = err_from_is_err_and c.from_residual.result c.from_residual.ensures.1 in
     rw (p.1, p.2) (∥∥₁_map c.in_err-presence.ensures.seen (seen_refused _ e may _ free _))
@@ -175,7 +175,7 @@ pub returns-in-Nothing-clause-seen : goal.returns-in-Nothing-clause-seen
 returns-in-Nothing-clause-seen g c =
     let i = c.args.self.now.inputs in
     let e = entry_at (bstr_bytes c.args.path) c.args.entry.now in
-    let may : MayReturn g.row.S-Output.Denot = record { stat = g.W.Worktree.may_stat i.worktree.now; opened = g.W.Worktree.may_open i.worktree.now; linked = g.W.Worktree.may_link i.worktree.now; found = g.O.Find.may_find i.objects; reported = g.S.SubmoduleStatus.may_report i.submodule } in
+    let may : MayReturn g.row.S-Output.Denot = record { stat = g.W.Worktree.may_stat i.worktree.now; opened = g.W.Worktree.may_open i.worktree.now; linked = g.W.Worktree.may_link i.worktree.now; listed = g.L.Lister.may_list i.lister; found = g.O.Find.may_find i.objects; reported = g.S.SubmoduleStatus.may_report i.submodule } in
     let free = free_view may c.args.self.now.settings.fscache e (g.met.W.Worktree.stat_may_fail i.worktree.now) (g.met.W.Worktree.open_may_fail i.worktree.now e.path) (g.met.W.Worktree.link_may_fail i.worktree.now e.path) (g.met.O.Find.find_may_fail i.objects e.id) in
     let look = c.in_ok-presence.field-0 in
     ∥∥₁_map c.in_ok-presence.ensures.seen (λ s.
@@ -186,7 +186,7 @@ pub returns-in_ok-decided-in-Directory-clause-seen : goal.returns-in_ok-decided-
 returns-in_ok-decided-in-Directory-clause-seen g c =
     let i = c.args.self.now.inputs in
     let e = entry_at (bstr_bytes c.args.path) c.args.entry.now in
-    let may : MayReturn g.row.S-Output.Denot = record { stat = g.W.Worktree.may_stat i.worktree.now; opened = g.W.Worktree.may_open i.worktree.now; linked = g.W.Worktree.may_link i.worktree.now; found = g.O.Find.may_find i.objects; reported = g.S.SubmoduleStatus.may_report i.submodule } in
+    let may : MayReturn g.row.S-Output.Denot = record { stat = g.W.Worktree.may_stat i.worktree.now; opened = g.W.Worktree.may_open i.worktree.now; linked = g.W.Worktree.may_link i.worktree.now; listed = g.L.Lister.may_list i.lister; found = g.O.Find.may_find i.objects; reported = g.S.SubmoduleStatus.may_report i.submodule } in
     let free = free_view may c.args.self.now.settings.fscache e (g.met.W.Worktree.stat_may_fail i.worktree.now) (g.met.W.Worktree.open_may_fail i.worktree.now e.path) (g.met.W.Worktree.link_may_fail i.worktree.now e.path) (g.met.O.Find.find_may_fail i.objects e.id) in
     let look = c.in_ok-presence.field-0 in
     let said = rw c.look.ensures.inputs at c.in_ok-decided-in-Directory.ensures.seen in
@@ -196,7 +196,7 @@ pub returns-in_err-decided-in-Directory-clause-seen : goal.returns-in_err-decide
 returns-in_err-decided-in-Directory-clause-seen g c =
     let i = c.args.self.now.inputs in
     let e = entry_at (bstr_bytes c.args.path) c.args.entry.now in
-    let may : MayReturn g.row.S-Output.Denot = record { stat = g.W.Worktree.may_stat i.worktree.now; opened = g.W.Worktree.may_open i.worktree.now; linked = g.W.Worktree.may_link i.worktree.now; found = g.O.Find.may_find i.objects; reported = g.S.SubmoduleStatus.may_report i.submodule } in
+    let may : MayReturn g.row.S-Output.Denot = record { stat = g.W.Worktree.may_stat i.worktree.now; opened = g.W.Worktree.may_open i.worktree.now; linked = g.W.Worktree.may_link i.worktree.now; listed = g.L.Lister.may_list i.lister; found = g.O.Find.may_find i.objects; reported = g.S.SubmoduleStatus.may_report i.submodule } in
     let free = free_view may c.args.self.now.settings.fscache e (g.met.W.Worktree.stat_may_fail i.worktree.now) (g.met.W.Worktree.open_may_fail i.worktree.now e.path) (g.met.W.Worktree.link_may_fail i.worktree.now e.path) (g.met.O.Find.find_may_fail i.objects e.id) in
     let look = c.in_ok-presence.field-0 in
     let said = rw c.look.ensures.inputs at c.in_err-decided-in-Directory.ensures.seen in
