@@ -15,7 +15,7 @@ use gix_status::index_as_worktree_with_renames::Entry;
 use std::alloc::{AllocError, Global};
 use std::io;
 
-/// What has a line.
+/// A record or an entry of a status, which has a line.
 pub(crate) trait Line {
     /// Its line.
     ghost line: { Self → List ℕ };
