@@ -3,6 +3,7 @@ pub mod Fitting
 pub mod Founds
 pub mod LeftOut
 pub mod Mapped
+pub mod Refreshing
 pub mod Runs
 pub mod Selected
 pub mod Shown
