@@ -1,10 +1,11 @@
 -- The contents that a reader may give whose content is known.
-use Rattle.std.proofs.Common.{◌≡◌, ℕ, List, [], ◌++◌, take, inl, inr, refl, sym, ap, ◌∙◌, Option, Some, None, Result, Ok, Err}
-use Rattle.std.proofs.lemmas.List.{append_assoc}
+use Rattle.std.proofs.Common.{◌≡◌, ℕ, List, [], ◌++◌, take, inl, inr, refl, sym, ap, subst, ◌∙◌, Option, Some, None, Result, Ok, Err}
+use Rattle.std.specs.Result.{IsErrAnd}
+use Rattle.std.proofs.lemmas.List.{append_assoc, append-nil}
 use Rattle.status_index.specs.declared.fault.Fault.{Fault}
 use Rattle.status_index.specs.declared.fault.Fault.TheVariants.{Memory}
 use Rattle.status_index.specs.Content.{Content, FaultOf, ReadKeeps}
-use Rattle.status_index.specs.Given.{Follows, IsKnownOrCut, IsReadStep, behind, no_bytes}
+use Rattle.status_index.specs.Given.{Follows, IsAllGiven, IsKnownOrCut, IsReadStep, MayGive, behind, no_bytes}
 
 -- Contents are equal if their bytes and their ends are.
 pub same_content : (a b : Content) → a.bytes ≡ b.bytes → a.fault ≡ b.fault → a ≡ b
@@ -40,3 +41,12 @@ known_step old new (Err f) buffer h =
         value : Option Content → Content
         value (Some c) = c
         value None = new
+
+-- Reading that runs out of memory after some bytes appended those of a content that the reader may give.
+pub all_given_short : (may later : MayGive) (before now after done : List ℕ) (r : Result (Unit {0}) Fault) → IsErrAnd r (λ f. f ≡ Memory) → now ≡ before ++ done → after ≡ now
+    → Follows may later done → later (no_bytes (Some Memory)) → IsAllGiven may before after r
+all_given_short may later before now after done (Ok _) is was same follows ends = absurd is
+all_given_short may later before now after done (Err f) is was same follows ends =
+    (done ++ [],
+    same ∙ was ∙ ap (λ (x : List ℕ). before ++ x) (sym (append-nil done)),
+    subst (λ (x : Fault). may (record { bytes = done ++ []; fault = Some x })) (sym is) (follows (no_bytes (Some Memory)) ends))

@@ -33,10 +33,10 @@ abbrev pub IsReadStep : MayGive → MayGive → Result ℕ Fault → List ℕ �
 IsReadStep old new (Ok n) buffer = Follows old new (take n buffer) × (n ≡ 0 → 0 < length buffer → old (no_bytes None))
 IsReadStep old new (Err f) buffer = Follows old new [] × old (no_bytes (Some f))
 
--- Reading to the end appended the bytes of a content that the reader may give, or failed by the fault of one.
+-- Reading to the end appended the bytes of a content that the reader may give, up to its end or to its fault.
 abbrev pub IsAllGiven : MayGive → List ℕ → List ℕ → Result (Unit {0}) Fault → Type 0
 IsAllGiven may before after (Ok _) = (bytes : List ℕ) × (after ≡ before ++ bytes) × may (record { bytes = bytes; fault = None })
-IsAllGiven may before after (Err f) = (bytes : List ℕ) × may (record { bytes = bytes; fault = Some f })
+IsAllGiven may before after (Err f) = (bytes : List ℕ) × (after ≡ before ++ bytes) × may (record { bytes = bytes; fault = Some f })
 
 -- The result of hashing the first n bytes is that of a content which the reader may give.
 abbrev pub IsHashGiven : MayGive → HashKind → ℕ → Result ObjectId Fault → Type 0
