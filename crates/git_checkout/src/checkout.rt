@@ -6,8 +6,9 @@ use crate::index_file::{FoundIndex, read_index_file};
 use crate::refresh::Refresh;
 use crate::refused::{Illformed, Refused};
 use crate::request::{Request, Selected, selected_by};
-use crate::selection::{Exceptions, check_each, tops_of};
+use crate::selection::{Exceptions, check_each, tops_of, untracked_of};
 use git_attributes::AttributeFiles;
+use git_explain::{Wanted, run_explain};
 use git_repository::{
     GitAttributeFiles, IgnoredSubmodules, IntendedWorktree, Repository, SubmoduleHeads,
     time_of_lock,
@@ -129,9 +130,16 @@ where
     } else {
         None
     };
+    let untracked = untracked_of(alloc, &read.file.state, &selected)?;
     let nested = Nested {
         top,
         intended: &intended,
+        wanted: Wanted {
+            all: !selected.is_empty(),
+            json: request.json,
+            left_out: &left_out,
+            untracked: &untracked,
+        },
     };
     let compared = compare(rt, request, read, nested, asked, output, faults);
     if compared.status != FAILED && !illformed.is_empty() {
@@ -199,6 +207,8 @@ struct Nested<'x> {
     top: &'x str,
     /// The entries at whose paths they count.
     intended: &'x State,
+    /// Which paths are explained, if that is asked for.
+    wanted: Wanted<'x>,
 }
 
 /// Prints the status of an index file. A nested repository counts as a node at the paths of some entries. There are new bytes
@@ -242,7 +252,22 @@ where
         paths: asked.paths,
         attributes: asked.attributes,
     };
-    if !request.refresh {
+    if request.explain {
+        let status = run_explain(
+            rt.alloc(),
+            &read.file.state,
+            asked,
+            nested.wanted,
+            output,
+            faults,
+        );
+        Refreshed {
+            status,
+            bytes: None,
+            is_whole: false,
+            extensions: &[],
+        }
+    } else if !request.refresh {
         Refreshed {
             status: run_dirty(rt, &read, asked, output, faults),
             bytes: None,

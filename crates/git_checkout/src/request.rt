@@ -18,6 +18,11 @@ pub struct Request<'a> {
     pub refresh: bool,
     /// Whether the counts are printed.
     pub stats: bool,
+    /// Whether an explanation is printed in place of lines: what the system was asked of each path, what it answered, and why
+    /// the path has its status. If there are PATHS each one that they select is explained, and otherwise those that differ.
+    pub explain: bool,
+    /// Whether explanations are objects of JSON.
+    pub json: bool,
     /// Whether the process may make the worktree's top its working folder. This is faster, since the system then has fewer
     /// steps to each file. It changes the meaning of all relative paths, also for other threads, and stays so.
     pub enter: bool,
@@ -36,6 +41,8 @@ impl<'a> Request<'a> {
             quiet: false,
             refresh: false,
             stats: false,
+            explain: false,
+            json: false,
             enter: false,
             threads: None,
             paths: Vec::new(alloc),

@@ -70,6 +70,24 @@ pub(crate) fn check_each<W: Worktree>(
     Ok(())
 }
 
+/// Returns the selected paths at which and below which an index has no entry.
+///
+/// # Errors
+/// Out of memory.
+pub(crate) fn untracked_of<'a>(
+    alloc: Global,
+    index: &State,
+    selected: &'a [Selected<'_>],
+) -> Result<Vec<&'a str>, AllocError> {
+    let mut untracked = Vec::new(alloc);
+    for one in selected {
+        if !one.path.is_empty() && !has_entry(alloc, index, one)? {
+            untracked.push(one.path.as_str())?;
+        }
+    }
+    Ok(untracked)
+}
+
 /// Returns whether a node is at a path, and a folder if only that is selected.
 fn has_node<W: Worktree>(worktree: &W, one: &Selected<'_>) -> bool {
     match worktree.lstat(BStr::new(one.path.as_bytes())) {

@@ -12,6 +12,8 @@ const EXAMPLES: &str = "\
 Examples:
   git dirty            list the tracked files that differ from the index
   git dirty -q src     only set the exit status, for the files below src
+  git dirty --explain README.md
+                       say why README.md is listed, or isn't
 
 Exit status: 0 if nothing differs, 1 if something does, 2 after a failure.
 A line has the letters of git status --porcelain. The index isn't compared with
@@ -39,6 +41,8 @@ pub fn request_of<'a>(alloc: Global, matches: &ArgMatches<'a>) -> Result<Request
         quiet: matches.get_flag("quiet"),
         refresh: matches.get_flag("refresh"),
         stats: matches.get_flag("stats"),
+        explain: matches.get_flag("explain"),
+        json: matches.get_flag("json"),
         enter: true,
         threads: matches.get_one("threads"),
         paths,
@@ -88,6 +92,20 @@ pub fn command_line<'a>(alloc: Global) -> Result<Command<'a>, AllocError> {
             "Store the new times of unchanged files in the index",
         )
         .long("refresh"))?
+        .arg(
+            flag(
+                alloc,
+                "explain",
+                "Say why a path is listed, or isn't: with PATHS each of theirs",
+            )
+            .long("explain")
+            .conflicts_with_all(&["zero", "quiet", "refresh", "stats"])?,
+        )?
+        .arg(
+            flag(alloc, "json", "With --explain, print an object of JSON for each path")
+                .long("json")
+                .requires_arg("explain")?,
+        )?
         .arg(threads)?
         .arg(flag(
             alloc,

@@ -1,0 +1,42 @@
+-- What was seen of one entry, as a worktree and a submodule whose results are those answers.
+use Rattle.std.specs.Prelude.{ℕ, Bool, true, false, List, [], ◌∷◌, codes, Option, Some, None, Result, Ok, Err, if◌then◌else◌}
+use Rattle.std.specs.Str.{bytes_eq}
+use Rattle.std.specs.Global.{Vec}
+use Rattle.status_index.specs.Content.{Content}
+use Rattle.status_index.specs.declared.fault.Fault.{Fault}
+use Rattle.status_index.specs.declared.fault.Fault.TheVariants.{Other}
+use Rattle.status_index.specs.declared.stat.Metadata.{Metadata}
+use Rattle.git_explain.specs.declared.sight.Look.{Look}
+use Rattle.git_explain.specs.declared.sight.Reading.{Reading}
+
+-- The fault of a question that wasn't asked.
+abbrev pub unasked : Fault
+unasked = Other 4294967295
+
+-- What the first look at a path found.
+abbrev pub looked : List Look → List ℕ → Result Metadata Fault
+looked [] path = Err unasked
+looked (look ∷ looks) path = if bytes_eq look.path.items path then look.found else looked looks path
+
+-- What was read of a file: its bytes, and then its end or a fault.
+abbrev pub content_of : Reading → Content
+content_of r = record { bytes = r.bytes.items; fault = r.fault }
+
+-- The result of opening the file.
+abbrev pub opened : Option (Result Reading Fault) → Result Content Fault
+opened None = Err unasked
+opened (Some (Err f)) = Err f
+opened (Some (Ok r)) = Ok (content_of r)
+
+-- The link's target.
+abbrev pub linked : Option (Result (Vec ℕ) Fault) → Result (List ℕ) Fault
+linked None = Err unasked
+linked (Some (Err f)) = Err f
+linked (Some (Ok target)) = Ok target.items
+
+-- The report of the submodule: whether it changed, or the words of its fault.
+abbrev pub reported : Option (Result Bool (List ℕ)) → Result (Option (Unit {0})) (List ℕ)
+reported None = Err (codes "not asked")
+reported (Some (Err text)) = Err text
+reported (Some (Ok true)) = Ok (Some tt)
+reported (Some (Ok false)) = Ok None
