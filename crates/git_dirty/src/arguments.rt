@@ -5,7 +5,7 @@ use git_checkout::Request;
 use std::alloc::{AllocError, Global};
 
 /// The day of the newest section of `CHANGELOG.md`: there are no releases to name.
-const VERSION: &str = "2026-11-29, unreleased";
+const VERSION: &str = "2026-11-30, unreleased";
 
 /// What `--help` shows after the options.
 const EXAMPLES: &str = "\

@@ -1,9 +1,10 @@
 -- The status of one path by what was seen of it.
-use Rattle.std.specs.Prelude.{ℕ, true, List, [], Option, Some, None, Result, Err}
+use Rattle.std.specs.Prelude.{ℕ, true, List, [], Option, Some, None, Result}
+use Rattle.std.specs.FinMap as ids
 use Rattle.std.specs.Str.{bytes_eq}
 use Rattle.git_attributes.specs.LineEnds.{line_ends}
 use Rattle.git_attributes.specs.declared.line_ends.LineEnds.{LineEnds}
-use Rattle.status_base.specs.declared.worktree.objects.FindError.TheVariants.{Missing}
+use Rattle.status_base.specs.Objects.{found_in}
 use Rattle.status_call.specs.Query.{Query}
 use Rattle.status_call.specs.RecorderVisits.{visits_of}
 use Rattle.status_call.specs.StatusTheorem.{IsStatusReport}
@@ -29,7 +30,7 @@ by_sight settings filter path sight = record {
   prefix = path;
   included = λ p _. bytes_eq p path;
   conversion = line_ends filter;
-  blob = λ _. Err Missing;
+  blob = λ e. found_in ids.empty e.id;
   submodule = λ _. reported sight.submodule;
   compared = λ e n m. fast_answer e n m.file;
   counted = λ e n m k. Some (counts_after_fast e n m.file k);

@@ -27,16 +27,17 @@ use std::alloc::{AllocError, Global};
 
 /// What is asked about paths of an index.
 #[derive(Drop)]
-pub(crate) struct Explainer<'a, 'index, W, S> {
-    pub(crate) alloc: Global,
+pub struct Explainer<'a, 'index, W, S> {
+    /// The allocator.
+    pub alloc: Global,
     /// The index.
-    pub(crate) index: &'index State,
+    pub index: &'index State,
     /// The worktree.
-    pub(crate) worktree: &'a W,
+    pub worktree: &'a W,
     /// The submodules.
-    pub(crate) submodules: S,
+    pub submodules: S,
     /// How entries are compared.
-    pub(crate) options: Options,
+    pub options: Options,
 }
 
 /// Why a path has its status: what was seen, and the records and counts of a status by that.
@@ -58,11 +59,11 @@ pub struct Explained<'index> {
 
 impl<'a, 'index, W: Worktree, S: SubmoduleStatus> Explainer<'a, 'index, W, S> {
     /// Explains the status of an entry's path. First nothing is asked. If that doesn't decide, the directories above the path and the
-    /// path are looked at; and if that doesn't either, the content is read.
+    /// path are checked by `lstat`; and if that doesn't either, the content is read.
     ///
     /// # Errors
     /// Out of memory.
-    pub(crate) fn explain(
+    pub fn explain(
         &mut self,
         entry: &'index Entry,
         path: BStr<'index>,
@@ -234,7 +235,10 @@ fn status_by<'index>(
         RecordedSubmodule { alloc, sight },
         MemoryObjects::new(alloc),
         context,
-        options.clone()?,
+        Options {
+            fscache: false,
+            ..options.clone()?
+        },
     );
     match answer {
         Err(Error::Memory) => Err(AllocError),

@@ -16,5 +16,5 @@ pub mod sight;
 mod text;
 mod words;
 
-pub use explained::Explained;
+pub use explained::{Explained, Explainer};
 pub use run::{Wanted, run_explain};

@@ -60,7 +60,7 @@ pub(crate) fn reasons(
     }
     if explained.is_flagged() {
         let flag = flag_words(explained.entry.flags);
-        push(&mut words, format!(in alloc; "its entry is marked as {flag}, so it isn't looked at"))?;
+        push(&mut words, format!(in alloc; "its entry is marked as {flag}, so its file isn't checked"))?;
         return Ok(words);
     }
     match explained.status() {
