@@ -106,10 +106,10 @@ ends() {
 prints() { printf "$1" | cmp - "$room/out"; }
 says() { grep -zqP "$1" "$room/err"; }
 
-# What it printed to its output has to match this pattern, from the first byte to the last.
+# The whole output of the program has to match this pattern.
 matches() { grep -zqP "\\A$1\\Z" "$room/out" || { cat "$room/out"; exit 1; }; }
 
-# What an explanation says of a node that isn't a directory, after its kind.
+# The words of an explanation for a node that isn't a directory, after its kind.
 node() { stat -c '%s bytes, mtime %.9Y, ctime %.9Z, inode %i, owner %u, group %g' -- "$1"; }
 
 # Files that have to differ.

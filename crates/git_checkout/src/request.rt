@@ -18,8 +18,8 @@ pub struct Request<'a> {
     pub refresh: bool,
     /// Whether the counts are printed.
     pub stats: bool,
-    /// Whether an explanation is printed in place of lines: what the system was asked of each path, what it answered, and why
-    /// the path has its status. If there are PATHS each one that they select is explained, and otherwise those that differ.
+    /// Whether explanations are printed in place of lines: the calls that were made for a path, their results, and why the path
+    /// has its status. If there are PATHS, each path that they select is explained, and otherwise those that differ.
     pub explain: bool,
     /// Whether explanations are objects of JSON.
     pub json: bool,

@@ -1,3 +1,3 @@
-pub mod Answers
+pub mod Allowed
 pub mod Explained
 pub mod Sights

@@ -1,4 +1,4 @@
--- What was seen of one entry, as a worktree and a submodule whose results are those answers.
+-- The sight of one entry, as the results of a worktree and a submodule.
 use Rattle.std.specs.Prelude.{ℕ, Bool, true, false, List, [], ◌∷◌, codes, Option, Some, None, Result, Ok, Err, if◌then◌else◌}
 use Rattle.std.specs.Str.{bytes_eq}
 use Rattle.std.specs.Global.{Vec}
@@ -6,19 +6,19 @@ use Rattle.status_index.specs.Content.{Content}
 use Rattle.status_index.specs.declared.fault.Fault.{Fault}
 use Rattle.status_index.specs.declared.fault.Fault.TheVariants.{Other}
 use Rattle.status_index.specs.declared.stat.Metadata.{Metadata}
-use Rattle.git_explain.specs.declared.sight.Look.{Look}
+use Rattle.git_explain.specs.declared.sight.LstatCall.{LstatCall}
 use Rattle.git_explain.specs.declared.sight.Reading.{Reading}
 
--- The fault of a question that wasn't asked.
+-- The fault of a call that wasn't made.
 abbrev pub unasked : Fault
 unasked = Other 4294967295
 
--- What the first look at a path found.
-abbrev pub looked : List Look → List ℕ → Result Metadata Fault
-looked [] path = Err unasked
-looked (look ∷ looks) path = if bytes_eq look.path.items path then look.found else looked looks path
+-- The result of the first call of `lstat` at a path.
+abbrev pub result_at : List LstatCall → List ℕ → Result Metadata Fault
+result_at [] path = Err unasked
+result_at (call ∷ calls) path = if bytes_eq call.path.items path then call.found else result_at calls path
 
--- What was read of a file: its bytes, and then its end or a fault.
+-- The content that was read of a file: its bytes, and then its end or a fault.
 abbrev pub content_of : Reading → Content
 content_of r = record { bytes = r.bytes.items; fault = r.fault }
 

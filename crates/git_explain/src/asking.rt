@@ -1,11 +1,11 @@
-//! The questions that a worktree and a submodule are asked about one entry, in the order of a status.
+//! The calls of a worktree and a submodule for one entry, in the order of a status.
 
 ghost use Rattle.std.specs.Prelude.{IfOk, ℕ, List, Option, Result};
 ghost use Rattle.bstr.specs.BStr.{bstr_bytes};
 ghost use Rattle.status_index.specs.Entries.{IndexEntry, entry_at};
-ghost use Rattle.git_explain.specs.Answers.{AreLooksAllowed, IsFileAllowed, IsLinkAllowed, IsSubmoduleAllowed};
+ghost use Rattle.git_explain.specs.Allowed.{AreCallsAllowed, IsFileAllowed, IsLinkAllowed, IsSubmoduleAllowed};
 
-use crate::sight::{Look, Reading, Sight};
+use crate::sight::{LstatCall, Reading, Sight};
 use bstr::BStr;
 use status_base::worktree::{
     ByteText, Fault, Metadata, NodeKind, SubmoduleFault, SubmoduleStatus, Worktree, read_all,
@@ -13,27 +13,28 @@ use status_base::worktree::{
 use status_index::Entry;
 use std::alloc::{AllocError, Global};
 
-/// Looks at each directory above a path, up to the first that is a link or has a fault, and otherwise at the path.
+/// Calls `lstat` for each directory above a path, up to the first that is a link or has a fault. If there is none, calls it for
+/// the path too.
 ///
 /// # Errors
 /// Out of memory.
-pub(crate) fn look_along<W: Worktree>(
+pub(crate) fn ask_along<W: Worktree>(
     alloc: Global,
     worktree: &W,
     path: &[u8],
-    looks: &mut Vec<Look>,
+    calls: &mut Vec<LstatCall>,
 ) -> Result<(), AllocError>
-    ensures { AreLooksAllowed (W.may_stat worktree.now) looks.old.items → AreLooksAllowed (W.may_stat worktree.now) looks.new.items }
+    ensures { AreCallsAllowed (W.may_stat worktree.now) calls.old.items → AreCallsAllowed (W.may_stat worktree.now) calls.new.items }
 {
     for at in 0..path.len() {
         if path[at] != b'/' {
             continue;
         }
-        if is_barrier(look_at(alloc, worktree, &path[..at], looks)?) {
+        if is_barrier(ask_lstat(alloc, worktree, &path[..at], calls)?) {
             return Ok(());
         }
     }
-    let _ = look_at(alloc, worktree, path, looks)?;
+    let _ = ask_lstat(alloc, worktree, path, calls)?;
     Ok(())
 }
 
@@ -45,21 +46,21 @@ fn is_barrier(found: Result<Metadata, Fault>) -> bool {
     }
 }
 
-/// Looks at a path, and adds the look to the list.
+/// Calls `lstat` for a path, and adds the call to the list.
 ///
 /// # Errors
 /// Out of memory.
-fn look_at<W: Worktree>(
+fn ask_lstat<W: Worktree>(
     alloc: Global,
     worktree: &W,
     path: &[u8],
-    looks: &mut Vec<Look>,
+    calls: &mut Vec<LstatCall>,
 ) -> Result<Result<Metadata, Fault>, AllocError>
-    ensures { AreLooksAllowed (W.may_stat worktree.now) looks.old.items → AreLooksAllowed (W.may_stat worktree.now) looks.new.items }
+    ensures { AreCallsAllowed (W.may_stat worktree.now) calls.old.items → AreCallsAllowed (W.may_stat worktree.now) calls.new.items }
 {
     let found = worktree.lstat(BStr::new(path));
     let path = Vec::from_slice(alloc, path)?;
-    looks.push(Look { path, found })?;
+    calls.push(LstatCall { path, found })?;
     Ok(found)
 }
 

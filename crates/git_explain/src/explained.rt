@@ -1,4 +1,4 @@
-//! One path: what is asked for it, and its status by what was seen.
+//! One path: the calls that are made for it, and its status by their results.
 
 ghost use Rattle.std.specs.Prelude.{◌≡◌, [], IfOk};
 ghost use Rattle.bstr.specs.BStr.{bstr_bytes};
@@ -6,10 +6,10 @@ ghost use Rattle.status_call.specs.Inputs.{settings};
 ghost use Rattle.status_call.specs.RecorderVisits.{visits_of};
 ghost use Rattle.status_call.specs.StatusTheorem.{IsStatusReport};
 ghost use Rattle.status_index.specs.Entries.{entry_at};
-ghost use Rattle.git_explain.specs.Answers.{IsReadFurther, IsSightAllowed};
+ghost use Rattle.git_explain.specs.Allowed.{IsReadFurther, IsSightAllowed};
 ghost use Rattle.git_explain.specs.Explained.{IsStatusBySight, by_sight};
 
-use crate::asking::{ask_submodule, look_along, read_file, read_link};
+use crate::asking::{ask_submodule, ask_along, read_file, read_link};
 use crate::only::OnlyPath;
 use crate::recorded::{RecordedFile, RecordedSubmodule, RecordedWorktree};
 use crate::sight::{Sight, UNASKED};
@@ -25,7 +25,7 @@ use status_call::index_as_worktree::{
 use status_index::{Entry, ObjectId, Stat, State, compute_hash};
 use std::alloc::{AllocError, Global};
 
-/// What is asked about paths of an index.
+/// An index and a worktree whose paths are explained.
 #[derive(Drop)]
 pub struct Explainer<'a, 'index, W, S> {
     /// The allocator.
@@ -40,14 +40,14 @@ pub struct Explainer<'a, 'index, W, S> {
     pub options: Options,
 }
 
-/// Why a path has its status: what was seen, and the records and counts of a status by that.
+/// Why a path has its status: its sight, and the records and counts of a status by that.
 #[derive(Debug, Drop)]
 pub struct Explained<'index> {
     /// The path.
     pub path: BStr<'index>,
     /// The first of its entries.
     pub entry: &'index Entry,
-    /// What was seen.
+    /// The sight.
     pub sight: Sight,
     /// The records of the status.
     pub recorder: Recorder<'index, (), ()>,
@@ -58,8 +58,8 @@ pub struct Explained<'index> {
 }
 
 impl<'a, 'index, W: Worktree, S: SubmoduleStatus> Explainer<'a, 'index, W, S> {
-    /// Explains the status of an entry's path. First nothing is asked. If that doesn't decide, the directories above the path and the
-    /// path are checked by `lstat`; and if that doesn't either, the content is read.
+    /// Explains the status of an entry's path. At first no call is made. If that doesn't decide, the directories above the path
+    /// and the path are checked by `lstat`. If that doesn't either, the content is read.
     ///
     /// # Errors
     /// Out of memory.
@@ -79,7 +79,7 @@ impl<'a, 'index, W: Worktree, S: SubmoduleStatus> Explainer<'a, 'index, W, S> {
             return Ok(first);
         }
         let mut sight = first.sight;
-        look_along(self.alloc, self.worktree, path.as_bytes(), &mut sight.looks)?;
+        ask_along(self.alloc, self.worktree, path.as_bytes(), &mut sight.calls)?;
         if entry.mode.is_submodule() && has_directory(&sight, path) {
             sight.submodule = Some(ask_submodule(&mut self.submodules, entry, path)?);
         }
@@ -93,14 +93,14 @@ impl<'a, 'index, W: Worktree, S: SubmoduleStatus> Explainer<'a, 'index, W, S> {
         Ok(third)
     }
 
-    /// Reads the link or the file that was seen at a path.
+    /// Reads the link or the file at a path.
     ///
     /// # Errors
     /// Out of memory.
     fn read(&self, path: BStr<'_>, mut sight: Sight) -> Result<Sight, AllocError>
         ensures { IfOk result (IsReadFurther (W.may_open self.now.worktree.now (bstr_bytes path.entry)) (W.may_link self.now.worktree.now (bstr_bytes path.entry)) sight.entry) }
     {
-        match sight.looked(path.as_bytes()) {
+        match sight.result_at(path.as_bytes()) {
             Ok(node) if node.kind == NodeKind::Link => {
                 sight.link = Some(read_link(self.alloc, self.worktree, path)?);
             }
@@ -109,7 +109,7 @@ impl<'a, 'index, W: Worktree, S: SubmoduleStatus> Explainer<'a, 'index, W, S> {
         Ok(sight)
     }
 
-    /// Returns the status of a path by what was seen.
+    /// Returns the status of a path by its sight.
     ///
     /// # Errors
     /// Out of memory.
@@ -137,7 +137,7 @@ impl<'a, 'index, W: Worktree, S: SubmoduleStatus> Explainer<'a, 'index, W, S> {
 }
 
 impl Explained<'_> {
-    /// Returns whether the status is that a question wasn't asked.
+    /// Returns whether the status is that a call wasn't made.
     fn is_unasked(&self) -> bool {
         matches!(&self.answer, Err(Error::Io(fault)) if *fault == UNASKED)
     }
@@ -167,7 +167,7 @@ impl Explained<'_> {
 
     /// Returns the stat of the node at the path. None if it isn't known.
     pub(crate) fn stat(&self) -> Option<Stat> {
-        let node = self.sight.looked(self.path.as_bytes()).ok()?;
+        let node = self.sight.result_at(self.path.as_bytes()).ok()?;
         node.to_stat().ok()
     }
 }
@@ -197,12 +197,12 @@ fn stored_id(
     }
 }
 
-/// Returns whether a look found a directory at a path.
+/// Returns whether a call found a directory at a path.
 fn has_directory(sight: &Sight, path: BStr<'_>) -> bool {
-    matches!(sight.looked(path.as_bytes()), Ok(node) if node.kind == NodeKind::Directory)
+    matches!(sight.result_at(path.as_bytes()), Ok(node) if node.kind == NodeKind::Directory)
 }
 
-/// Computes the status of the entries of one path by what was seen.
+/// Computes the status of the entries of one path by its sight.
 ///
 /// # Errors
 /// Out of memory.

@@ -2,7 +2,7 @@
 
 use crate::explained::Explained;
 use crate::reason::{Compared, reasons, status_word};
-use crate::sight::{Look, Reading, Sight};
+use crate::sight::{LstatCall, Reading, Sight};
 use crate::words::{IdText, PathText};
 use serde_json::{Value, json};
 use status_base::worktree::{ByteText, Fault, Metadata, NodeKind};
@@ -89,11 +89,11 @@ fn strings(alloc: Global, texts: &[String]) -> Result<Value, AllocError> {
     Ok(Value::Array(list))
 }
 
-/// Returns the list of the questions that were asked for a path, with their answers.
+/// Returns the list of the calls that were made for a path, with their results.
 fn asked_value(alloc: Global, path: &[u8], sight: &Sight) -> Result<Value, AllocError> {
     let mut list = Vec::new(alloc);
-    for look in &sight.looks {
-        list.push(look_value(alloc, look)?)?;
+    for call in &sight.calls {
+        list.push(call_value(alloc, call)?)?;
     }
     if let Some(read) = &sight.file {
         list.push(file_value(alloc, path, read)?)?;
@@ -107,9 +107,9 @@ fn asked_value(alloc: Global, path: &[u8], sight: &Sight) -> Result<Value, Alloc
     Ok(Value::Array(list))
 }
 
-fn look_value(alloc: Global, look: &Look) -> Result<Value, AllocError> {
-    let path = path_value(alloc, &look.path)?;
-    match look.found {
+fn call_value(alloc: Global, call: &LstatCall) -> Result<Value, AllocError> {
+    let path = path_value(alloc, &call.path)?;
+    match call.found {
         Ok(node) => json!(in alloc; { "lstat": path, "found": node_value(alloc, &node)? }),
         Err(fault) => json!(in alloc; { "lstat": path, "fault": fault_value(alloc, fault)? }),
     }

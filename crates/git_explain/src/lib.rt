@@ -1,7 +1,7 @@
-//! Why `git dirty` lists a path, or doesn't: what the worktree was asked, what it answered, and which rule decided.
+//! Why `git dirty` lists a path, or doesn't: the calls that were made for it, their results, and the rule that decided.
 //!
-//! Read `sight` first, what was seen of one path. `asking` asks for it, `recorded` makes a worktree of it, and `explained`
-//! has the status by it. `reason` and `words` say in words why that is so, `text` and `json` are the forms of an explanation,
+//! Read `sight` first, the calls for one path with their results. `asking` makes them, `recorded` is a worktree of their results
+//! alone, and `explained` has the status by it. `reason` and `words` say in words why that is so, `text` and `json` are the forms of an explanation,
 //! and `run` has the command.
 #![tactic(auto)]
 

@@ -1,7 +1,7 @@
 //! The rule that decided the status of a path, in words.
 
 use crate::explained::Explained;
-use crate::sight::Look;
+use crate::sight::LstatCall;
 use crate::words::{EntryText, IdText, PathText, mode_words};
 use bitflags::Flags as _;
 use status_base::worktree::{Metadata, NodeKind};
@@ -9,7 +9,7 @@ use status_call::index_as_worktree::{Change, Conflict, EntryStatus, Error, Optio
 use status_index::{Flags, Moment, ObjectId, Stat};
 use std::alloc::{AllocError, Global};
 
-/// How entries are compared: what the words depend on besides a path.
+/// How entries are compared.
 #[derive(Clone, Copy)]
 pub(crate) struct Compared<'o> {
     pub(crate) options: &'o Options,
@@ -113,7 +113,7 @@ fn push_removed(
     words: &mut Vec<String>,
     explained: &Explained<'_>,
 ) -> Result<(), AllocError> {
-    let Some(Look { path, found }) = explained.sight.looks.last() else {
+    let Some(LstatCall { path, found }) = explained.sight.calls.last() else {
         return Ok(());
     };
     let is_above = path.len() < explained.path.as_bytes().len();

@@ -1,4 +1,4 @@
-//! A sight as a worktree and as a submodule: what was seen is all that they know.
+//! A worktree and a submodule that return the results in a sight, and no others.
 
 ghost use Rattle.std.specs.Prelude.{◌≡◌};
 
@@ -11,10 +11,10 @@ use status_index::Entry;
 use std::alloc::{AllocError, Global};
 use std::marker::Model;
 
-/// The worktree of a sight. It answers what was answered before, and no other question.
+/// The worktree of a sight. Each call returns the result that it had before. A call that wasn't made has the fault `UNASKED`.
 #[derive(Clone, Copy)]
 pub(crate) struct RecordedWorktree<'s> {
-    /// What was seen.
+    /// The sight.
     pub(crate) sight: &'s Sight,
 }
 
@@ -23,19 +23,19 @@ impl<'s> Worktree for RecordedWorktree<'s> {
     ghost use Rattle.std.proofs.Common.{inr};
     ghost use Rattle.status_index.specs.Answer.{IsAnswer};
     ghost use Rattle.status_base.specs.Openings.{IsKnownOpening};
-    ghost use Rattle.git_explain.specs.Sights.{linked, looked, opened};
+    ghost use Rattle.git_explain.specs.Sights.{linked, result_at, opened};
 
     type File = RecordedFile<'s>;
 
     ghost modelled = { λ _. true };
 
-    ghost lstat_of = { λ w. looked w.sight.now.looks.items };
+    ghost lstat_of = { λ w. result_at w.sight.now.calls.items };
 
     ghost open_of = { λ w _. opened w.sight.now.file };
 
     ghost target_of = { λ w _. linked w.sight.now.link };
 
-    ghost may_stat = { λ w path answer. IsAnswer (looked w.sight.now.looks.items path) answer };
+    ghost may_stat = { λ w path answer. IsAnswer (result_at w.sight.now.calls.items path) answer };
 
     ghost may_open = { λ w _. IsKnownOpening (opened w.sight.now.file) };
 
@@ -48,7 +48,7 @@ impl<'s> Worktree for RecordedWorktree<'s> {
     ghost link_may_fail = { λ _ _. inr refl };
 
     fn lstat(&self, path: BStr<'_>) -> Result<Metadata, Fault> {
-        self.sight.looked(path.as_bytes())
+        self.sight.result_at(path.as_bytes())
     }
 
     fn open(&self, _path: BStr<'_>) -> Result<RecordedFile<'s>, Fault> {
@@ -69,10 +69,10 @@ impl<'s> Worktree for RecordedWorktree<'s> {
     }
 }
 
-/// A file of which was read before what is read now.
+/// A file whose bytes were read before.
 #[derive(Drop)]
 pub(crate) struct RecordedFile<'s> {
-    /// What is left of the bytes.
+    /// The bytes that are left.
     bytes: &'s [u8],
     /// The fault after them. None for the end.
     fault: Option<Fault>,
@@ -122,12 +122,12 @@ impl ReadBytes for RecordedFile<'_> {
     }
 }
 
-/// The submodule of a sight. It reports what it reported before.
+/// The submodule of a sight. It reports the same as before.
 #[derive(Clone, Copy)]
 pub(crate) struct RecordedSubmodule<'s> {
     /// The allocator.
     pub(crate) alloc: Global,
-    /// What was seen.
+    /// The sight.
     pub(crate) sight: &'s Sight,
 }
 

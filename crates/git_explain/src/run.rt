@@ -27,7 +27,7 @@ pub struct Wanted<'a> {
     pub untracked: &'a [&'a str],
 }
 
-/// What explanations found.
+/// The explanations of paths.
 #[derive(Drop)]
 struct Explanations {
     /// Their text.
@@ -38,8 +38,8 @@ struct Explanations {
     failed: bool,
 }
 
-/// Explains the status of the selected paths of an index. Prints for each what was asked of the worktree, what it answered, and
-/// why the path has its status. Returns the exit status: 0 if no path differs, 1 if one does, and 2 after a failure.
+/// Explains the status of the selected paths of an index. Prints for each the calls of the worktree with their results, and why
+/// the path has its status. Returns the exit status: 0 if no path differs, 1 if one does, and 2 after a failure.
 pub fn run_explain<
     'a,
     W: Worktree,

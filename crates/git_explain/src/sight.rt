@@ -1,25 +1,25 @@
-//! What was seen of one entry: what its worktree and its submodule were asked, and what they answered.
+//! The sight of one entry: the calls that were made of its worktree and its submodule, with their results.
 
 ghost use Rattle.std.specs.Prelude.{◌≡◌, [], None};
-ghost use Rattle.git_explain.specs.Sights.{looked};
+ghost use Rattle.git_explain.specs.Sights.{result_at};
 
 use bstr::BStr;
 use status_base::worktree::{ByteText, Fault, Metadata, NodeKind};
 use std::alloc::Global;
 
-/// The fault of a question that wasn't asked. No system has an error of this number.
+/// The fault of a call that wasn't made. No system has an error of this number.
 pub const UNASKED: Fault = Fault::Other(u32::MAX);
 
 /// A call of `lstat`.
 #[derive(Debug, Drop)]
-pub struct Look {
+pub struct LstatCall {
     /// The path, from the worktree's top.
     pub path: Vec<u8>,
     /// The node there, or why there is none.
     pub found: Result<Metadata, Fault>,
 }
 
-/// What was read of an open file.
+/// The bytes that were read of an open file.
 #[derive(Debug, Drop)]
 pub struct Reading {
     /// The bytes.
@@ -28,11 +28,11 @@ pub struct Reading {
     pub fault: Option<Fault>,
 }
 
-/// What was seen of one entry. It is also a worktree in which just this is known.
+/// The calls that were made for one entry, with their results.
 #[derive(Debug, Drop)]
 pub struct Sight {
     /// The calls of `lstat`, in their order: on the directories above the path, and on the path.
-    pub looks: Vec<Look>,
+    pub calls: Vec<LstatCall>,
     /// The file that was opened, or the fault of opening it. None if none was opened.
     pub file: Option<Result<Reading, Fault>>,
     /// The target of the link that was read, or the fault of reading it. None if none was read.
@@ -42,29 +42,29 @@ pub struct Sight {
 }
 
 impl Sight {
-    /// Returns the sight of an entry for which nothing was asked.
+    /// Returns the sight of an entry for which no call was made.
     pub fn new(alloc: Global) -> Sight
-        ensures looks { result.looks.items ≡ [] }
+        ensures calls { result.calls.items ≡ [] }
         ensures file { result.file ≡ None }
         ensures link { result.link ≡ None }
         ensures submodule { result.submodule ≡ None }
     {
         Sight {
-            looks: Vec::new(alloc),
+            calls: Vec::new(alloc),
             file: None,
             link: None,
             submodule: None,
         }
     }
 
-    /// Returns what `lstat` found at a path, or that it wasn't asked.
-    pub fn looked(&self, path: &[u8]) -> Result<Metadata, Fault>
-        ensures { result ≡ looked self.now.looks.items path.now }
+    /// Returns the result of `lstat` at a path, or that it wasn't called there.
+    pub fn result_at(&self, path: &[u8]) -> Result<Metadata, Fault>
+        ensures { result ≡ result_at self.now.calls.items path.now }
     {
-        let mut rest = self.looks.as_slice();
-        'looks: while let [look, after @ ..] = rest {
-            if look.path.as_slice() == path {
-                return look.found;
+        let mut rest = self.calls.as_slice();
+        'calls: while let [call, after @ ..] = rest {
+            if call.path.as_slice() == path {
+                return call.found;
             }
             rest = after;
         }

@@ -2,11 +2,11 @@
 
 use crate::explained::Explained;
 use crate::reason::{Compared, reasons, status_word};
-use crate::sight::Look;
+use crate::sight::LstatCall;
 use crate::words::{NodeText, PathText};
 use std::alloc::{AllocError, Global};
 
-/// Appends the explanation of a path: a line with its status, a line for each question, and a line for each reason.
+/// Appends the explanation of a path: a line with its status, a line for each call, and a line for each reason.
 ///
 /// # Errors
 /// Out of memory.
@@ -18,7 +18,7 @@ pub(crate) fn push_text(
 ) -> Result<(), AllocError> {
     let (path, word) = (PathText(explained.path.as_bytes()), status_word(explained));
     push_line(text, format!(in alloc; "{path}: {word}\n"))?;
-    for Look { path, found } in &explained.sight.looks {
+    for LstatCall { path, found } in &explained.sight.calls {
         let path = PathText(path);
         match found {
             Ok(node) => push_line(text, format!(in alloc; "  lstat {path}: {}\n", NodeText(*node)))?,
@@ -32,7 +32,7 @@ pub(crate) fn push_text(
     Ok(())
 }
 
-/// Appends a line for what was read, and for what the submodule reported.
+/// Appends a line for the content that was read, and for the submodule's report.
 fn push_content(
     alloc: Global,
     text: &mut Vec<u8>,

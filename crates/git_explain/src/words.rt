@@ -59,7 +59,7 @@ fn write_time<W: fmt::Write>(
     }
 }
 
-/// What an entry of the index has.
+/// The kind and the stat of an entry of the index.
 #[derive(Clone, Copy)]
 pub(crate) struct EntryText {
     pub(crate) mode: Mode,
