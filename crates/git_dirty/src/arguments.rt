@@ -102,9 +102,13 @@ pub fn command_line<'a>(alloc: Global) -> Result<Command<'a>, AllocError> {
             .conflicts_with_all(&["zero", "quiet", "refresh", "stats"])?,
         )?
         .arg(
-            flag(alloc, "json", "With --explain, print an object of JSON for each path")
-                .long("json")
-                .requires_arg("explain")?,
+            flag(
+                alloc,
+                "json",
+                "With --explain, print an object of JSON for each path",
+            )
+            .long("json")
+            .requires_arg("explain")?,
         )?
         .arg(threads)?
         .arg(flag(

@@ -9,7 +9,7 @@ ghost use Rattle.status_index.specs.Entries.{entry_at};
 ghost use Rattle.git_explain.specs.Allowed.{IsReadFurther, IsSightAllowed};
 ghost use Rattle.git_explain.specs.Explained.{IsStatusBySight, by_sight};
 
-use crate::asking::{ask_submodule, ask_along, read_file, read_link};
+use crate::asking::{ask_along, ask_submodule, read_file, read_link};
 use crate::only::OnlyPath;
 use crate::recorded::{RecordedFile, RecordedSubmodule, RecordedWorktree};
 use crate::sight::{Sight, UNASKED};
@@ -124,7 +124,15 @@ impl<'a, 'index, W: Worktree, S: SubmoduleStatus> Explainer<'a, 'index, W, S> {
         ensures sight { IfOk result (λ x. x.sight ≡ sight.entry) }
     {
         let mut recorder = Recorder::new(self.alloc);
-        let answer = status_by(self.alloc, self.index, path, filter, &self.options, &sight, &mut recorder)?;
+        let answer = status_by(
+            self.alloc,
+            self.index,
+            path,
+            filter,
+            &self.options,
+            &sight,
+            &mut recorder,
+        )?;
         Ok(Explained {
             path,
             entry,

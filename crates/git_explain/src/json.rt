@@ -115,7 +115,11 @@ fn call_value(alloc: Global, call: &LstatCall) -> Result<Value, AllocError> {
     }
 }
 
-fn file_value(alloc: Global, path: &[u8], read: &Result<Reading, Fault>) -> Result<Value, AllocError> {
+fn file_value(
+    alloc: Global,
+    path: &[u8],
+    read: &Result<Reading, Fault>,
+) -> Result<Value, AllocError> {
     let path = path_value(alloc, path)?;
     match read {
         Ok(reading) => {
@@ -129,7 +133,11 @@ fn file_value(alloc: Global, path: &[u8], read: &Result<Reading, Fault>) -> Resu
     }
 }
 
-fn link_value(alloc: Global, path: &[u8], read: &Result<Vec<u8>, Fault>) -> Result<Value, AllocError> {
+fn link_value(
+    alloc: Global,
+    path: &[u8],
+    read: &Result<Vec<u8>, Fault>,
+) -> Result<Value, AllocError> {
     let path = path_value(alloc, path)?;
     match read {
         Ok(target) => json!(in alloc; { "readlink": path, "target": path_value(alloc, target)? }),
@@ -137,11 +145,16 @@ fn link_value(alloc: Global, path: &[u8], read: &Result<Vec<u8>, Fault>) -> Resu
     }
 }
 
-fn submodule_value(alloc: Global, path: &[u8], said: &Result<bool, ByteText>) -> Result<Value, AllocError> {
+fn submodule_value(
+    alloc: Global,
+    path: &[u8],
+    said: &Result<bool, ByteText>,
+) -> Result<Value, AllocError> {
     let path = path_value(alloc, path)?;
     match said {
         Ok(changed) => json!(in alloc; { "submodule": path, "changed": *changed }),
-        Err(words) => json!(in alloc; { "submodule": path, "fault": path_value(alloc, words.as_bytes())? }),
+        Err(words) =>
+            json!(in alloc; { "submodule": path, "fault": path_value(alloc, words.as_bytes())? }),
     }
 }
 

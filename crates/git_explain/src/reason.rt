@@ -31,9 +31,8 @@ pub(crate) fn status_word(explained: &Explained<'_>) -> &'static str {
         Some(EntryStatus::IntentToAdd) => "to be added",
         Some(EntryStatus::Change(Change::Removed)) => "deleted",
         Some(EntryStatus::Change(Change::TypeChange { .. })) => "of another type",
-        Some(EntryStatus::Change(Change::Modification { .. } | Change::SubmoduleModification(_))) => {
-            "modified"
-        }
+        Some(EntryStatus::Change(Change::Modification { .. } | Change::SubmoduleModification(_))) =>
+            { "modified" }
     }
 }
 
@@ -60,22 +59,35 @@ pub(crate) fn reasons(
     }
     if explained.is_flagged() {
         let flag = flag_words(explained.entry.flags);
-        push(&mut words, format!(in alloc; "its entry is marked as {flag}, so its file isn't checked"))?;
+        push(
+            &mut words,
+            format!(in alloc; "its entry is marked as {flag}, so its file isn't checked"),
+        )?;
         return Ok(words);
     }
     match explained.status() {
         Some(EntryStatus::Conflict { summary, .. }) => {
             let sides = conflict_words(*summary);
-            push(&mut words, format!(in alloc; "the index has a conflict ({sides}), so the worktree isn't asked"))?;
+            push(
+                &mut words,
+                format!(in alloc;
+                    "the index has a conflict ({sides}), so the worktree isn't asked"
+                ),
+            )?;
         }
         Some(EntryStatus::IntentToAdd) => push(
             &mut words,
-            format!(in alloc; "its entry was made by git add -N, so its content isn't in the index yet"),
+            format!(in alloc;
+                "its entry was made by git add -N, so its content isn't in the index yet"
+            ),
         )?,
         Some(EntryStatus::Change(Change::Removed)) => push_removed(alloc, &mut words, explained)?,
         Some(EntryStatus::Change(Change::TypeChange { worktree_mode })) => {
             let (old, new) = (mode_words(explained.entry.mode), mode_words(*worktree_mode));
-            push(&mut words, format!(in alloc; "the index has {old}, and in its place is {new}"))?;
+            push(
+                &mut words,
+                format!(in alloc; "the index has {old}, and in its place is {new}"),
+            )?;
         }
         Some(EntryStatus::Change(Change::SubmoduleModification(()))) => push(
             &mut words,
@@ -90,7 +102,9 @@ pub(crate) fn reasons(
         )?,
         None => push(
             &mut words,
-            format!(in alloc; "the index has the same size and times, and is newer than the file, so it isn't read"),
+            format!(in alloc;
+                "the index has the same size and times, and is newer than the file, so it isn't read"
+            ),
         )?,
     }
     Ok(words)
@@ -120,7 +134,10 @@ fn push_removed(
     let at = PathText(path);
     match found {
         Ok(node) if is_above && node.kind == NodeKind::Link => {
-            push(words, format!(in alloc; "{at} is a link, and nothing of the index is behind a link"))
+            push(
+                words,
+                format!(in alloc; "{at} is a link, and nothing of the index is behind a link"),
+            )
         }
         Ok(_) => push(words, format!(in alloc; "a directory is in its place")),
         Err(_) => push(words, format!(in alloc; "nothing is there")),
@@ -145,11 +162,18 @@ fn push_compared(
     push(words, format!(in alloc; "the index has {has}"))?;
     push_cause(alloc, words, explained, stat, compared)?;
     match explained.status() {
-        Some(EntryStatus::Change(Change::Modification {
-            executable_bit_changed: true,
-            content_change: None,
-            ..
-        })) => push(words, format!(in alloc; "its content is the same, but whether it is executable differs"))?,
+        Some(
+            EntryStatus::Change(
+                Change::Modification {
+                    executable_bit_changed: true,
+                    content_change: None,
+                    ..
+                },
+            ),
+        ) => push(
+            words,
+            format!(in alloc; "its content is the same, but whether it is executable differs"),
+        )?,
         Some(EntryStatus::Change(_)) if explained.id.is_none() => push(
             words,
             format!(in alloc; "the size alone shows a change, so it isn't read"),
@@ -161,9 +185,15 @@ fn push_compared(
     };
     let (new, old) = (IdText(id), IdText(entry.id));
     if id == entry.id {
-        push(words, format!(in alloc; "its content has the id {new}, as in the index"))
+        push(
+            words,
+            format!(in alloc; "its content has the id {new}, as in the index"),
+        )
     } else {
-        push(words, format!(in alloc; "its content has the id {new}; the index has {old}"))
+        push(
+            words,
+            format!(in alloc; "its content has the id {new}; the index has {old}"),
+        )
     }
 }
 
@@ -179,18 +209,25 @@ fn push_cause(
     let old = &explained.entry.stat;
     if !stat.matches(old, options) {
         let fields = differing(alloc, &stat, old, options)?;
-        return push(words, format!(in alloc; "different: {fields}; so it is compared"));
+        return push(
+            words,
+            format!(in alloc; "different: {fields}; so it is compared"),
+        );
     }
     if stat.is_racy(compared.timestamp, options) {
         return push(
             words,
-            format!(in alloc; "the stat agrees, but the index isn't newer than the file, which may have changed since (racy); so it is compared"),
+            format!(in alloc;
+                "the stat agrees, but the index isn't newer than the file, which may have changed since (racy); so it is compared"
+            ),
         );
     }
     if old.size == 0 && !explained.entry.id.is_empty_blob() {
         return push(
             words,
-            format!(in alloc; "the index has size 0, which asks for a comparison; so it is compared"),
+            format!(in alloc;
+                "the index has size 0, which asks for a comparison; so it is compared"
+            ),
         );
     }
     Ok(())
@@ -206,7 +243,10 @@ fn differing(
     let differ = [
         (new.size != old.size, "size"),
         (new.mtime.secs != old.mtime.secs, "mtime"),
-        (options.trust_ctime && new.ctime.secs != old.ctime.secs, "ctime"),
+        (
+            options.trust_ctime && new.ctime.secs != old.ctime.secs,
+            "ctime",
+        ),
         (options.check_stat && new.ino != old.ino, "inode"),
         (options.check_stat && new.uid != old.uid, "owner"),
         (options.check_stat && new.gid != old.gid, "group"),

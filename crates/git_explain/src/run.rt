@@ -3,8 +3,8 @@
 ghost use Rattle.std.specs.Prelude.{◌≡◌, ◌⊎◌};
 
 use crate::explained::{Explained, Explainer};
-use crate::reason::Compared;
 use crate::json::{push_json, push_other_json};
+use crate::reason::Compared;
 use crate::text::{push_other, push_text};
 use git_attributes::{AttributeFiles, LineEnds, attributes_of};
 use git_status::{Asked, print_failure};
@@ -158,11 +158,23 @@ impl Explanations {
         if wanted.all {
             for entry in wanted.left_out.entries() {
                 let path = entry.path_in(wanted.left_out.path_backing()).as_bytes();
-                self.add_other(alloc, wanted.json, path, "not compared", "its settings ignore the submodule")?;
+                self.add_other(
+                    alloc,
+                    wanted.json,
+                    path,
+                    "not compared",
+                    "its settings ignore the submodule",
+                )?;
             }
         }
         for path in wanted.untracked {
-            self.add_other(alloc, wanted.json, path.as_bytes(), "not in the index", "only paths of the index are compared")?;
+            self.add_other(
+                alloc,
+                wanted.json,
+                path.as_bytes(),
+                "not in the index",
+                "only paths of the index are compared",
+            )?;
         }
         Ok(())
     }

@@ -21,7 +21,10 @@ pub(crate) fn push_text(
     for LstatCall { path, found } in &explained.sight.calls {
         let path = PathText(path);
         match found {
-            Ok(node) => push_line(text, format!(in alloc; "  lstat {path}: {}\n", NodeText(*node)))?,
+            Ok(node) => push_line(
+                text,
+                format!(in alloc; "  lstat {path}: {}\n", NodeText(*node)),
+            )?,
             Err(fault) => push_line(text, format!(in alloc; "  lstat {path}: {fault}\n"))?,
         }
     }
@@ -41,7 +44,10 @@ fn push_content(
     let path = PathText(explained.path.as_bytes());
     match &explained.sight.file {
         Some(Ok(reading)) => {
-            push_line(text, format!(in alloc; "  read {path}: {} bytes", reading.bytes.len()))?;
+            push_line(
+                text,
+                format!(in alloc; "  read {path}: {} bytes", reading.bytes.len()),
+            )?;
             match reading.fault {
                 Some(fault) => push_line(text, format!(in alloc; ", then {fault}\n"))?,
                 None => push_line(text, format!(in alloc; "\n"))?,
@@ -52,14 +58,23 @@ fn push_content(
     }
     match &explained.sight.link {
         Some(Ok(target)) => {
-            push_line(text, format!(in alloc; "  readlink {path}: {}\n", PathText(target)))?;
+            push_line(
+                text,
+                format!(in alloc; "  readlink {path}: {}\n", PathText(target)),
+            )?;
         }
         Some(Err(fault)) => push_line(text, format!(in alloc; "  readlink {path}: {fault}\n"))?,
         None => {}
     }
     match &explained.sight.submodule {
-        Some(Ok(true)) => push_line(text, format!(in alloc; "  HEAD of {path}: another commit\n"))?,
-        Some(Ok(false)) => push_line(text, format!(in alloc; "  HEAD of {path}: no other commit\n"))?,
+        Some(Ok(true)) => push_line(
+            text,
+            format!(in alloc; "  HEAD of {path}: another commit\n"),
+        )?,
+        Some(Ok(false)) => push_line(
+            text,
+            format!(in alloc; "  HEAD of {path}: no other commit\n"),
+        )?,
         Some(Err(words)) => push_line(text, format!(in alloc; "  HEAD of {path}: {words}\n"))?,
         None => {}
     }

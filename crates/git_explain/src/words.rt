@@ -43,7 +43,11 @@ impl fmt::Display for NodeText {
         write!(f, " of {} bytes, ", node.len)?;
         write_time(f, "mtime", node.mtime)?;
         write_time(f, "ctime", node.ctime)?;
-        write!(f, "inode {}, owner {}, group {}", node.ino, node.uid, node.gid)
+        write!(
+            f,
+            "inode {}, owner {}, group {}",
+            node.ino, node.uid, node.gid
+        )
     }
 }
 
@@ -72,7 +76,11 @@ impl fmt::Display for EntryText {
         write!(f, "{} of {} bytes, ", mode_words(self.mode), stat.size)?;
         write_time(f, "mtime", Some(stat.mtime))?;
         write_time(f, "ctime", Some(stat.ctime))?;
-        write!(f, "inode {}, owner {}, group {}", stat.ino, stat.uid, stat.gid)
+        write!(
+            f,
+            "inode {}, owner {}, group {}",
+            stat.ino, stat.uid, stat.gid
+        )
     }
 }
 

@@ -46,7 +46,8 @@ known_step old new (Err f) buffer h =
 pub all_given_short : (may later : MayGive) (before now after done : List ℕ) (r : Result (Unit {0}) Fault) → IsErrAnd r (λ f. f ≡ Memory) → now ≡ before ++ done → after ≡ now
     → Follows may later done → later (no_bytes (Some Memory)) → IsAllGiven may before after r
 all_given_short may later before now after done (Ok _) is was same follows ends = absurd is
-all_given_short may later before now after done (Err f) is was same follows ends =
-    (done ++ [],
-    same ∙ was ∙ ap (λ (x : List ℕ). before ++ x) (sym (append-nil done)),
-    subst (λ (x : Fault). may (record { bytes = done ++ []; fault = Some x })) (sym is) (follows (no_bytes (Some Memory)) ends))
+all_given_short may later before now after done (Err f) is was same follows ends = (
+  done ++ [],
+  same ∙ was ∙ ap (λ (x : List ℕ). before ++ x) (sym (append-nil done)),
+  subst (λ (x : Fault). may (record { bytes = done ++ []; fault = Some x })) (sym is) (follows (no_bytes (Some Memory)) ends),
+)
