@@ -1,16 +1,27 @@
 -- The status of one path by its sight.
-use Rattle.std.specs.Prelude.{ℕ, true, List, [], Option, Some, None, Result}
+use Rattle.std.specs.Prelude.{◌≡◌, ◌&&◌, ℕ, Bool, true, not, List, [], ◌∷◌, map, All, Option, Some, None, Result, is_err, if◌then◌else◌}
 use Rattle.std.specs.FinMap as ids
+use Rattle.std.specs.List.{list_any}
 use Rattle.std.specs.Str.{bytes_eq}
+use Rattle.bstr.specs.BStr.{bstr_bytes}
 use Rattle.git_attributes.specs.LineEnds.{line_ends}
 use Rattle.git_attributes.specs.declared.line_ends.LineEnds.{LineEnds}
 use Rattle.status_base.specs.Objects.{found_in}
+use Rattle.git_status.specs.Runs.{Asking, Converting, is_difference}
+use Rattle.status_call.specs.Inputs.{settings}
+use Rattle.status_base.specs.Openings.{MayOpen}
+use Rattle.status_base.specs.Sights.{MayStat}
 use Rattle.status_call.specs.Query.{Query}
 use Rattle.status_call.specs.RecorderVisits.{visits_of}
 use Rattle.status_call.specs.StatusTheorem.{IsStatusReport}
 use Rattle.status_call.specs.declared.index_as_worktree.inputs.Settings.{Settings}
 use Rattle.status_compare.specs.Comparers.{counts_after_fast, fast_answer}
+use Rattle.status_index.specs.Entries.{IndexEntry, entry_at}
+use Rattle.status_index.specs.Mode.{is_submodule}
+use Rattle.status_index.specs.States.{index_of}
+use Rattle.status_index.specs.declared.fault.Fault.{Fault}
 use Rattle.status_index.specs.declared.state.State.{State}
+use Rattle.git_explain.specs.Allowed.{IsSightAllowed}
 use Rattle.git_explain.specs.Sights.{linked, result_at, opened, reported}
 use Rattle.git_explain.specs.declared.explained.Explained.{Explained}
 use Rattle.git_explain.specs.declared.sight.Sight.{Sight}
@@ -37,5 +48,35 @@ by_sight settings filter path sight = record {
 }
 
 -- The records and counts, or the fault, are those of the status theorem for the entries of the path, by its sight.
-abbrev pub IsStatusBySight : Settings → LineEnds → State → List ℕ → Explained → Type 0
-IsStatusBySight settings filter index path x = IsStatusReport (by_sight settings filter path x.sight) index [] x.answer (visits_of x.recorder)
+abbrev pub IsStatusBySight : Settings → LineEnds → State → Explained → Type 0
+IsStatusBySight settings filter index x = IsStatusReport (by_sight settings filter (bstr_bytes x.path) x.sight) index [] x.answer (visits_of x.recorder)
+
+-- The entry whose path is explained.
+abbrev pub entry_of : Explained → IndexEntry
+entry_of x = entry_at (bstr_bytes x.path) x.entry.now
+
+-- The path has a line in the status.
+abbrev pub has_line : Explained → Bool
+has_line x = list_any is_difference (visits_of x.recorder)
+
+-- The path's status is that of its sight, and each result in this is one that may be returned for the entry.
+pub record IsExplained {U : Type 0} (may_stat : MayStat) (may_open : List ℕ → MayOpen) (may_link : List ℕ → Result (List ℕ) Fault → Type 0)
+    (may_report : IndexEntry → Result (Option U) (List ℕ) → Type 0) (settings : Settings) (filter : LineEnds) (index : State) (x : Explained) : Type 0 where
+  pub status : IsStatusBySight settings filter index x
+  pub allowed : let e = entry_of x in IsSightAllowed may_stat (may_open e.path) (may_link e.path) (may_report e) x.sight
+
+-- The first entry of each path, of the paths that are included. The path before these entries is passed too.
+abbrev pub first_entries : (List ℕ → Bool → Bool) → List ℕ → List IndexEntry → List IndexEntry
+first_entries included before [] = []
+first_entries included before (e ∷ es) =
+    if not (bytes_eq e.path before) && included e.path (is_submodule e.mode) then e ∷ first_entries included e.path es else first_entries included e.path es
+
+-- Each included path of the index is explained, in index order, with line ends converted by attribute files that may be found.
+-- These are whether one differs, and whether the status of one failed.
+pub record AreExplained {T U : Type 0} (a : Asking T U) (included : List ℕ → Bool → Bool) (index : State) (differs failed : Bool) : Type 0 where
+  pub converting : Converting a index
+  pub found : List Explained
+  pub all : map entry_of found ≡ first_entries included [] (index_of index)
+  pub each : let may = a.may_return in All (IsExplained may.stat may.opened may.linked may.reported (settings a.settings.options index) converting.filter index) found
+  pub lines : differs ≡ list_any has_line found
+  pub faults : failed ≡ list_any (λ x. is_err x.answer) found

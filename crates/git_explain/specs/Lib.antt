@@ -1,3 +1,4 @@
+pub mod Added
 pub mod Allowed
 pub mod Explained
 pub mod Sights

@@ -1,14 +1,16 @@
 //! Why `git dirty` lists a path, or doesn't: the calls that were made for it, their results, and the rule that decided.
 //!
-//! Read `sight` first, the calls for one path with their results. `asking` makes them, `recorded` is a worktree of their results
-//! alone, and `explained` has the status by it. `reason` and `words` say in words why that is so, `text` and `json` are the forms of an explanation,
-//! and `run` has the command.
+//! Read `sight` first, the calls for one path with their results. `asking` makes them, and `recorded` is a worktree of their
+//! results alone. `explainer` has the status by it, and `explained` keeps that. `reason` and `words` have the rule in words,
+//! `text` and `json` the two forms of an explanation, `paths` goes over the paths, and `run` has the command.
 #![tactic(auto)]
 
 mod asking;
 mod explained;
+mod explainer;
 mod json;
 mod only;
+mod paths;
 mod reason;
 mod recorded;
 mod run;
@@ -16,5 +18,7 @@ pub mod sight;
 mod text;
 mod words;
 
-pub use explained::{Explained, Explainer};
-pub use run::{Wanted, run_explain};
+pub use explained::Explained;
+pub use explainer::Explainer;
+pub use paths::Wanted;
+pub use run::run_explain;

@@ -27,7 +27,7 @@ mod status;
 mod watcher;
 
 pub use answer::Report;
-pub use asked::{Asked, Settings};
+pub use asked::{Asked, Question, Settings};
 pub use dirty::{print_file, run_dirty};
 pub use failure::Failure;
 pub use laws::{clean_means_no_difference, lines_are_of_all_differences};

@@ -1,0 +1,208 @@
+//! One path: the calls that are made for it, and its status by their results.
+
+ghost use Rattle.std.specs.Prelude.{◌≡◌, ℕ, List, Option, Result, IfOk};
+ghost use Rattle.bstr.specs.BStr.{bstr_bytes};
+ghost use Rattle.status_call.specs.Inputs.{settings};
+ghost use Rattle.status_call.specs.RecorderVisits.{visits_of};
+ghost use Rattle.status_call.specs.StatusTheorem.{IsStatusReport};
+ghost use Rattle.status_index.specs.Entries.{IndexEntry, entry_at};
+ghost use Rattle.git_explain.specs.Allowed.{IsReadFurther, IsSightAllowed};
+ghost use Rattle.git_explain.specs.Explained.{IsStatusBySight, by_sight, entry_of};
+
+use crate::asking::{ask_along, ask_submodule, read_file, read_link};
+use crate::explained::Explained;
+use crate::only::OnlyPath;
+use crate::recorded::{RecordedSubmodule, RecordedWorktree};
+use crate::sight::Sight;
+use bstr::BStr;
+use git_attributes::LineEnds;
+use status_base::worktree::{MemoryObjects, NoLister, NodeKind, SubmoduleStatus, Worktree};
+use status_call::index_as_worktree::traits::FastEq;
+use status_call::index_as_worktree::{
+    Context, Error, Options, Outcome, Recorder, index_as_worktree_without_threads,
+};
+use status_index::{Entry, State};
+use std::alloc::{AllocError, Global};
+
+/// An index and a worktree whose paths are explained.
+#[derive(Drop)]
+pub struct Explainer<'a, 'b, 'files, 'index, W, S> {
+    /// The allocator.
+    pub alloc: Global,
+    /// The index.
+    pub index: &'index State,
+    /// The worktree.
+    pub worktree: &'a W,
+    /// The submodules.
+    pub submodules: S,
+    /// How line ends are converted.
+    pub filter: LineEnds<'b, 'files, 'index>,
+    /// How entries are compared. No listings are used.
+    pub options: Options,
+}
+
+impl<'a, 'b, 'files, 'index, W: Worktree, S: SubmoduleStatus> Explainer<
+    'a,
+    'b,
+    'files,
+    'index,
+    W,
+    S,
+> {
+    /// Explains the status of an entry's path. At first no call is made. If that doesn't decide, the directories above the path
+    /// and the path are checked by `lstat`. If that doesn't either, the content is read.
+    ///
+    /// # Errors
+    /// Out of memory.
+    pub fn explain(
+        &mut self,
+        entry: &'index Entry,
+        path: BStr<'index>,
+    ) -> Result<Explained<'index>, AllocError>
+        ensures status { IfOk result (IsStatusBySight (settings self.old.options self.old.index.now) self.old.filter self.old.index.now) }
+        ensures allowed { IfOk result (λ x. let p = bstr_bytes path in IsSightAllowed (W.may_stat self.old.worktree.now) (W.may_open self.old.worktree.now p)
+            (W.may_link self.old.worktree.now p) (S.may_report self.old.submodules (entry_at p entry.now)) x.sight) }
+        ensures entry { IfOk result (λ x. (x.entry.now ≡ entry.now) × (bstr_bytes x.path ≡ bstr_bytes path)) }
+        ensures only { self.new ≡ record self.old { submodules = self.new.submodules } }
+        ensures within { (e : IndexEntry) (report : Result (Option S.Output) (List ℕ)) → S.may_report self.new.submodules e report → S.may_report self.old.submodules e report }
+    {
+        let first = self.by_sight(entry, path, Sight::new(self.alloc))?;
+        if !first.is_unasked() {
+            return Ok(first);
+        }
+        let sight = self.ask(entry, path, first.sight)?;
+        let second = self.by_sight(entry, path, sight)?;
+        if !second.is_unasked() {
+            return Ok(second);
+        }
+        let sight = self.read(path, second.sight)?;
+        let third = self.by_sight(entry, path, sight)?;
+        third.with_id(self.alloc, &self.filter)
+    }
+
+    /// Calls `lstat` for the directories above a path and for the path. If that is a directory at a submodule's entry, asks for
+    /// the submodule's status.
+    ///
+    /// # Errors
+    /// Out of memory.
+    fn ask(
+        &mut self,
+        entry: &'index Entry,
+        path: BStr<'index>,
+        mut sight: Sight,
+    ) -> Result<Sight, AllocError>
+        ensures allowed { let p = bstr_bytes path in let may = IsSightAllowed (W.may_stat self.old.worktree.now) (W.may_open self.old.worktree.now p)
+            (W.may_link self.old.worktree.now p) (S.may_report self.old.submodules (entry_at p entry.now)) in may sight.entry → IfOk result may }
+        ensures only { self.new ≡ record self.old { submodules = self.new.submodules } }
+        ensures within { (e : IndexEntry) (report : Result (Option S.Output) (List ℕ)) → S.may_report self.new.submodules e report → S.may_report self.old.submodules e report }
+    {
+        ask_along(self.alloc, self.worktree, path.as_bytes(), &mut sight.calls)?;
+        if !entry.mode.is_submodule() {
+            return Ok(sight);
+        }
+        if !has_directory(&sight, path) {
+            return Ok(sight);
+        }
+        let report = ask_submodule(&mut self.submodules, entry, path)?;
+        sight.submodule = Some(report);
+        Ok(sight)
+    }
+
+    /// Reads the link or the file at a path.
+    ///
+    /// # Errors
+    /// Out of memory.
+    fn read(&self, path: BStr<'_>, mut sight: Sight) -> Result<Sight, AllocError>
+        ensures { IfOk result (IsReadFurther (W.may_open self.now.worktree.now (bstr_bytes path.entry)) (W.may_link self.now.worktree.now (bstr_bytes path.entry)) sight.entry) }
+    {
+        if has_link(&sight, path) {
+            let target = read_link(self.alloc, self.worktree, path)?;
+            sight.link = Some(target);
+            return Ok(sight);
+        }
+        let file = read_file(self.alloc, self.worktree, path)?;
+        sight.file = Some(file);
+        Ok(sight)
+    }
+
+    /// Returns the status of a path by its sight.
+    ///
+    /// # Errors
+    /// Out of memory.
+    fn by_sight(
+        &self,
+        entry: &'index Entry,
+        path: BStr<'index>,
+        sight: Sight,
+    ) -> Result<Explained<'index>, AllocError>
+        ensures status { IfOk result (IsStatusBySight (settings self.now.options self.now.index.now) self.now.filter self.now.index.now) }
+        ensures sight { IfOk result (λ x. x.sight ≡ sight.entry) }
+        ensures entry { IfOk result (λ x. (x.entry.now ≡ entry.now) × (bstr_bytes x.path ≡ bstr_bytes path)) }
+    {
+        let mut recorder = Recorder::new(self.alloc);
+        let answer = self.status_by(path, &sight, &mut recorder)?;
+        Ok(Explained {
+            path,
+            entry,
+            sight,
+            recorder,
+            answer,
+            id: None,
+        })
+    }
+
+    /// Computes the status of the entries of one path by its sight.
+    ///
+    /// # Errors
+    /// Out of memory.
+    fn status_by(
+        &self,
+        path: BStr<'_>,
+        sight: &Sight,
+        recorder: &mut Recorder<'index, (), ()>,
+    ) -> Result<Result<Outcome, Error>, AllocError>
+        ensures { IfOk result (λ answer. IsStatusReport (by_sight (settings self.now.options self.now.index.now) self.now.filter (bstr_bytes path.entry) sight.now)
+            self.now.index.now (visits_of recorder.old) answer (visits_of recorder.new)) }
+    {
+        let context = Context {
+            pathspec: OnlyPath {
+                path: path.as_bytes(),
+            },
+            filter: self.filter.clone()?,
+            lister: NoLister,
+            should_interrupt: None,
+        };
+        let options = Options {
+            fscache: false,
+            ..self.options.clone()?
+        };
+        let answer = index_as_worktree_without_threads(
+            self.alloc,
+            self.index,
+            &RecordedWorktree { sight },
+            recorder,
+            FastEq,
+            RecordedSubmodule {
+                alloc: self.alloc,
+                sight,
+            },
+            MemoryObjects::new(self.alloc),
+            context,
+            options,
+        );
+        match answer {
+            Err(Error::Memory) => Err(AllocError),
+            answer => Ok(answer),
+        }
+    }
+}
+
+/// Returns whether `lstat` found a directory at a path.
+fn has_directory(sight: &Sight, path: BStr<'_>) -> bool {
+    matches!(sight.result_at(path.as_bytes()), Ok(node) if node.kind == NodeKind::Directory)
+}
+
+/// Returns whether `lstat` found a link at a path.
+fn has_link(sight: &Sight, path: BStr<'_>) -> bool {
+    matches!(sight.result_at(path.as_bytes()), Ok(node) if node.kind == NodeKind::Link)
+}

@@ -1,0 +1,234 @@
+//! The explanations of an index's paths, one after the other.
+
+ghost use Rattle.std.specs.Prelude.{◌≡◌, ◌||◌, ◌∷◌, [], List, ℕ, Option, Result, OnOk, IfOk, is_err, if◌then◌else◌};
+ghost use Rattle.bstr.specs.BStr.{bstr_bytes};
+ghost use Rattle.status_call.specs.Inputs.{settings};
+ghost use Rattle.status_index.specs.Entries.{IndexEntry, entry_at};
+ghost use Rattle.status_index.specs.States.{index_of};
+ghost use Rattle.git_explain.specs.Explained.{AreExplained, first_entries, has_line};
+ghost use Rattle.git_explain.specs.Added.{Adds};
+
+use crate::explained::Explained;
+use crate::explainer::Explainer;
+use crate::json::{push_json, push_other_json};
+use crate::reason::Compared;
+use crate::text::{push_other, push_text};
+use bstr::BStr;
+use git_attributes::{AttributeFiles, LineEnds, attributes_of};
+use git_status::{Asked, Question};
+use status_base::worktree::{Pathspec, SubmoduleStatus, Worktree};
+use status_index::{Entry, State};
+use std::alloc::{AllocError, Global};
+
+/// Which paths are explained, and how.
+#[derive(Clone, Copy)]
+pub struct Wanted<'a> {
+    /// Whether every selected path is explained. Otherwise only those are that have a line in the status, or that fail.
+    pub all: bool,
+    /// Whether each explanation is an object of JSON on a line of its own.
+    pub json: bool,
+    /// Entries that are selected, and aren't compared.
+    pub left_out: &'a State,
+    /// Selected paths at which and below which the index has no entry.
+    pub untracked: &'a [&'a str],
+}
+
+/// The explanations of paths.
+#[derive(Drop)]
+pub(crate) struct Explanations {
+    /// Their text.
+    pub(crate) text: Vec<u8>,
+    /// Whether a path differs from the index.
+    pub(crate) differs: bool,
+    /// Whether the status of a path failed.
+    pub(crate) failed: bool,
+}
+
+/// Explains each selected path of an index, in index order, and adds those that aren't compared.
+///
+/// # Errors
+/// Out of memory.
+pub(crate) fn explain_each<'a, W: Worktree, S: SubmoduleStatus, P: Pathspec, A: AttributeFiles>(
+    alloc: Global,
+    index: &State,
+    asked: Asked<'a, W, S, P, A>,
+    wanted: Wanted<'_>,
+) -> Result<Explanations, AllocError>
+    ensures { IfOk result (λ found. AreExplained (⟦<Asked<'a, W, S, P, A> as Question>⟧.asking asked.entry) (P.included asked.entry.paths) index.now found.differs found.failed) }
+{
+    let files = asked.attributes.find(alloc, index)?;
+    let attributes = attributes_of(alloc, &files)?;
+    let Asked {
+        settings,
+        worktree,
+        submodules,
+        paths,
+        ..
+    } = asked;
+    let mut explainer = Explainer {
+        alloc,
+        index,
+        worktree,
+        submodules,
+        filter: LineEnds {
+            attributes: &attributes,
+            auto: settings.auto_line_ends,
+            index,
+            kind: settings.kind,
+        },
+        options: settings.options,
+    };
+    let mut found = Explanations {
+        text: Vec::new(alloc),
+        differs: false,
+        failed: false,
+    };
+    found.add_entries(&mut explainer, &paths, wanted)?;
+    found.add_others(alloc, wanted)?;
+    Ok(found)
+}
+
+impl Explanations {
+    /// Adds the explanations of the selected paths of an index.
+    ///
+    /// # Errors
+    /// Out of memory.
+    fn add_entries<W: Worktree, S: SubmoduleStatus, P: Pathspec>(
+        &mut self,
+        explainer: &mut Explainer<'_, '_, '_, '_, W, S>,
+        paths: &P,
+        wanted: Wanted<'_>,
+    ) -> Result<(), AllocError>
+        ensures { let x = explainer.old in OnOk result (Adds (W.may_stat x.worktree.now) (W.may_open x.worktree.now) (W.may_link x.worktree.now) (S.may_report x.submodules)
+            (settings x.options x.index.now) x.filter x.index.now (first_entries (P.included paths.now) [] (index_of x.index.now)) self.old self.new) }
+    {
+        let index = explainer.index;
+        let mut rest = index.entries();
+        let mut before: &[u8] = b"";
+        'entries: while let [entry, after @ ..] = rest {
+            let path = entry.path_in(index.path_backing());
+            let selected = path.as_bytes() != before
+                && paths.includes(path, entry.mode.is_submodule());
+            self.add_if(selected, explainer, entry, path, wanted)?;
+            before = path.as_bytes();
+            rest = after;
+        }
+        Ok(())
+    }
+
+    /// Adds the explanation of an entry's path, if it is selected.
+    ///
+    /// # Errors
+    /// Out of memory.
+    fn add_if<'index, W: Worktree, S: SubmoduleStatus>(
+        &mut self,
+        selected: bool,
+        explainer: &mut Explainer<'_, '_, '_, 'index, W, S>,
+        entry: &'index Entry,
+        path: BStr<'index>,
+        wanted: Wanted<'_>,
+    ) -> Result<(), AllocError>
+        ensures adds { let x = explainer.old in OnOk result (Adds (W.may_stat x.worktree.now) (W.may_open x.worktree.now) (W.may_link x.worktree.now) (S.may_report x.submodules)
+            (settings x.options x.index.now) x.filter x.index.now (if selected then entry_at (bstr_bytes path) entry.now ∷ [] else []) self.old self.new) }
+        ensures only { explainer.new ≡ record explainer.old { submodules = explainer.new.submodules } }
+        ensures within { (e : IndexEntry) (report : Result (Option S.Output) (List ℕ)) → S.may_report explainer.new.submodules e report → S.may_report explainer.old.submodules e report }
+    {
+        if !selected {
+            return Ok(());
+        }
+        let explained = explainer.explain(entry, path)?;
+        let compared = Compared {
+            options: &explainer.options,
+            timestamp: explainer.index.timestamp(),
+        };
+        self.add(explainer.alloc, &explained, compared, wanted)
+    }
+
+    /// Adds the explanation of a path. If not all are wanted, one that is unchanged is left out.
+    ///
+    /// # Errors
+    /// Out of memory.
+    fn add(
+        &mut self,
+        alloc: Global,
+        explained: &Explained<'_>,
+        compared: Compared<'_>,
+        wanted: Wanted<'_>,
+    ) -> Result<(), AllocError>
+        ensures lines { OnOk result (self.new.differs ≡ (self.old.differs || has_line explained.now)) }
+        ensures faults { OnOk result (self.new.failed ≡ (self.old.failed || is_err explained.now.answer)) }
+    {
+        let (differs, failed) = (explained.has_line(), explained.has_failed());
+        self.differs = self.differs || differs;
+        self.failed = self.failed || failed;
+        if !(wanted.all || differs || failed) {
+            return Ok(());
+        }
+        if wanted.json {
+            push_json(alloc, &mut self.text, explained, compared)
+        } else {
+            push_text(alloc, &mut self.text, explained, compared)
+        }
+    }
+
+    /// Adds the selected paths that aren't compared: those of entries that are left out, and those that have no entry.
+    ///
+    /// # Errors
+    /// Out of memory.
+    fn add_others(&mut self, alloc: Global, wanted: Wanted<'_>) -> Result<(), AllocError>
+        ensures { OnOk result ((self.new.differs ≡ self.old.differs) × (self.new.failed ≡ self.old.failed)) }
+    {
+        if wanted.all {
+            push_left_out(alloc, &mut self.text, wanted)?;
+        }
+        for path in wanted.untracked {
+            push_not_compared(
+                alloc,
+                &mut self.text,
+                wanted.json,
+                path.as_bytes(),
+                "not in the index",
+                "only paths of the index are compared",
+            )?;
+        }
+        Ok(())
+    }
+}
+
+/// Appends the paths of the entries that are left out.
+///
+/// # Errors
+/// Out of memory.
+fn push_left_out(alloc: Global, text: &mut Vec<u8>, wanted: Wanted<'_>) -> Result<(), AllocError> {
+    for entry in wanted.left_out.entries() {
+        let path = entry.path_in(wanted.left_out.path_backing()).as_bytes();
+        push_not_compared(
+            alloc,
+            text,
+            wanted.json,
+            path,
+            "not compared",
+            "its settings ignore the submodule",
+        )?;
+    }
+    Ok(())
+}
+
+/// Appends a path that isn't compared.
+///
+/// # Errors
+/// Out of memory.
+fn push_not_compared(
+    alloc: Global,
+    text: &mut Vec<u8>,
+    json: bool,
+    path: &[u8],
+    status: &str,
+    because: &str,
+) -> Result<(), AllocError> {
+    if json {
+        push_other_json(alloc, text, path, status, because)
+    } else {
+        push_other(alloc, text, path, status, because)
+    }
+}
