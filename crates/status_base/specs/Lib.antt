@@ -11,6 +11,7 @@ pub mod LinkCheck
 pub mod ListedNodes
 pub mod Listing
 pub mod ListingTable
+pub mod Looked
 pub mod Looks
 pub mod MemoryTree
 pub mod Nodes

@@ -18,6 +18,7 @@ pub mod LawListings
 pub mod LawRecords
 pub mod LawRows
 pub mod LawTable
+pub mod MetNodes
 pub mod NoBlob
 pub mod NoThread
 pub mod Pieces

@@ -1,6 +1,8 @@
 -- A status depends on options, timestamp, and the specifications of all interfaces passed. Here they are put together.
 use Rattle.std.specs.Borrow.{Bor}
+use Rattle.std.specs.Prelude.{false}
 use Rattle.std.specs.FinMap as ids
+use Rattle.status_base.specs.Looked.{guarded}
 use Rattle.status_base.specs.Objects.{Contents}
 use Rattle.status_base.specs.declared.worktree.filter.NoFilter.{NoFilter}
 use Rattle.status_base.specs.declared.worktree.lister.NoLister.{NoLister}
@@ -12,10 +14,12 @@ use Rattle.status_call.specs.declared.index_as_worktree.inputs.Settings.{Setting
 use Rattle.status_call.specs.declared.index_as_worktree.types.Context.{Context}
 use Rattle.status_call.specs.declared.index_as_worktree.types.Options.{Options}
 
+-- The interfaces that a caller passes. What is specified of them is the same whether listings may stand in for looks, so this is
+-- false here.
 abbrev pub inputs_of : {W C S O P T L : Type 0} → Bor W → C → S → O → Context P T L
     → Inputs W C S O P T L
 inputs_of worktree compare submodule objects context = record {
-  worktree = worktree;
+  worktree = guarded worktree false;
   compare = compare;
   submodule = submodule;
   objects = objects;
@@ -28,7 +32,7 @@ inputs_of worktree compare submodule objects context = record {
 abbrev pub usual : {W C P : Type 0} → Bor W → C → P
     → Inputs W C NoSubmodules Contents P NoFilter NoLister
 usual worktree compare pathspec = record {
-  worktree = worktree;
+  worktree = guarded worktree false;
   compare = compare;
   submodule = record {};
   objects = ids.empty;

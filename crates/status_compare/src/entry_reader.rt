@@ -2,6 +2,7 @@
 
 ghost use Rattle.std.specs.Prelude.{◌≡◌, false, true, IsTrue, OnOk, OnErr};
 ghost use Rattle.bstr.specs.BStr.{bstr_bytes};
+ghost use Rattle.status_base.specs.Looked.{IsLookedAt, kind_read};
 ghost use Rattle.status_compare.specs.EntryReadings.{entry_readings, if_modelled};
 ghost use Rattle.status_compare.specs.Reads.{with_file};
 ghost use Rattle.status_compare.specs.Reading.{IsReading, target_reading, file_at, counts_at_stream};
@@ -11,14 +12,15 @@ use crate::error::Error;
 use crate::read_data::{ReadData, Reads};
 use crate::stream::Stream;
 use bstr::BStr;
-use status_base::worktree::{Find, ToGit, ToGitOutcome, Worktree};
+use status_base::worktree::{Find, GuardedWorktree, ToGit, ToGitOutcome, Worktree};
 use status_index::ObjectId;
 
-/// Reads one entry's file, as git would store it, and its blob.
+/// Reads one entry's file, as git would store it, and its blob. Whoever makes a reader owes that the file, or the link if its
+/// target is read, was met at the path.
 #[derive(Drop)]
-pub struct EntryReader<'w, 'r, W, T, O> {
+pub struct EntryReader<'w, 'r, W: Worktree, T, O> {
     /// The worktree that has the file.
-    pub worktree: &'w W,
+    pub worktree: GuardedWorktree<'w, W>,
     /// The filter that converts the file to what git would store.
     pub filter: &'r T,
     /// The object database that has the blob.
@@ -33,20 +35,22 @@ pub struct EntryReader<'w, 'r, W, T, O> {
     pub len: u64,
     /// The counts of reads so far, at first [`Reads::none`].
     pub reads: Reads,
+    pub ghost looked: { IsLookedAt (W.may_stat worktree.worktree.now) worktree.fscache (bstr_bytes path) (kind_read is_link) },
 }
 
 impl<'w, 'r, W: Worktree, T: ToGit, O: Find> EntryReader<'w, 'r, W, T, O> {
     // Reads the link's target into `buffer`, and counts it at once. The stream doesn't count it again.
     fn stream_target<'a>(&mut self, buffer: &'a mut Vec<u8>) -> Result<Stream<'a, W::File>, Error>
-        ensures stream { let r = self.old in IsTrue (W.modelled r.worktree.now)
-            → IsReading W.File.left (target_reading (W.target_of r.worktree.now (bstr_bytes r.path))) result }
+        requires link { self.old.is_link ≡ true }
+        ensures stream { let r = self.old in IsTrue (W.modelled r.worktree.worktree.now)
+            → IsReading W.File.left (target_reading (W.target_of r.worktree.worktree.now (bstr_bytes r.path))) result }
         ensures seen { let r = self.old in let path = bstr_bytes r.path in
             IsStreamSeen W.File.may_give
-            (IsFileReading (W.may_open r.worktree.now path) (W.may_link r.worktree.now path) true (λ c. T.conversion r.filter.now c path) r.len)
+            (IsFileReading (W.may_open r.worktree.worktree.now path) (W.may_link r.worktree.worktree.now path) true (λ c. T.conversion r.filter.now c path) r.len)
             r.reads result self.new.reads }
         ensures same { self.new ≡ record self.old { reads = self.new.reads } }
-        ensures counts { let r = self.old in OnOk result (IsTrue (W.modelled r.worktree.now)
-            → self.new.reads ≡ counts_at_stream (target_reading (W.target_of r.worktree.now (bstr_bytes r.path))) r.reads) }
+        ensures counts { let r = self.old in OnOk result (IsTrue (W.modelled r.worktree.worktree.now)
+            → self.new.reads ≡ counts_at_stream (target_reading (W.target_of r.worktree.worktree.now (bstr_bytes r.path))) r.reads) }
         ensures uncounted { OnErr result (self.new.reads ≡ self.old.reads) }
     {
         self.worktree.read_link(self.path, buffer)?;
@@ -62,11 +66,12 @@ impl<'w, 'r, W: Worktree, T: ToGit, O: Find> EntryReader<'w, 'r, W, T, O> {
 
     // Opens and converts the file. The stream's size is the file's length if the filter keeps the file unchanged.
     fn stream_file<'a>(&mut self, buffer: &'a mut Vec<u8>) -> Result<Stream<'a, W::File>, Error>
-        ensures stream { let r = self.old in IsTrue (W.modelled r.worktree.now) → IsReading W.File.left
-            (file_at (T.conversion r.filter.now) (W.open_of r.worktree.now) r.len (bstr_bytes r.path)) result }
+        requires file { self.old.is_link ≡ false }
+        ensures stream { let r = self.old in IsTrue (W.modelled r.worktree.worktree.now) → IsReading W.File.left
+            (file_at (T.conversion r.filter.now) (W.open_of r.worktree.worktree.now) r.len (bstr_bytes r.path)) result }
         ensures seen { let r = self.old in let path = bstr_bytes r.path in
             IsStreamSeen W.File.may_give
-            (IsFileReading (W.may_open r.worktree.now path) (W.may_link r.worktree.now path) false (λ c. T.conversion r.filter.now c path) r.len)
+            (IsFileReading (W.may_open r.worktree.worktree.now path) (W.may_link r.worktree.worktree.now path) false (λ c. T.conversion r.filter.now c path) r.len)
             r.reads result self.new.reads }
         ensures same { self.new ≡ record self.old { reads = self.new.reads } }
         ensures counts { OnOk result (self.new.reads ≡ with_file (self.old.reads)) }
@@ -90,20 +95,20 @@ impl<'w, 'r, W: Worktree, T: ToGit, O: Find> ReadData for EntryReader<'w, 'r, W,
 
     type File = W::File;
 
-    ghost readings = { λ r. if_modelled (W.modelled r.worktree.now) (O.modelled r.objects.now)
+    ghost readings = { λ r. if_modelled (W.modelled r.worktree.worktree.now) (O.modelled r.objects.now)
         (entry_readings r.is_link (λ c. T.conversion r.filter.now c (bstr_bytes r.path)) r.len
-        (W.open_of r.worktree.now (bstr_bytes r.path))
-        (W.target_of r.worktree.now (bstr_bytes r.path))
+        (W.open_of r.worktree.worktree.now (bstr_bytes r.path))
+        (W.target_of r.worktree.worktree.now (bstr_bytes r.path))
         (O.found r.objects.now r.id)) };
 
-    ghost may_stream = { λ r. IsFileReading (W.may_open r.worktree.now (bstr_bytes r.path)) (W.may_link r.worktree.now (bstr_bytes r.path)) r.is_link
+    ghost may_stream = { λ r. IsFileReading (W.may_open r.worktree.worktree.now (bstr_bytes r.path)) (W.may_link r.worktree.worktree.now (bstr_bytes r.path)) r.is_link
         (λ c. T.conversion r.filter.now c (bstr_bytes r.path)) r.len };
 
     ghost may_blob = { λ r. IsBlobReading (O.may_find r.objects.now r.id) };
 
     ghost counts = { λ r. r.reads };
 
-    ghost stream_may_fail = { λ r. file_may_fail r.is_link (W.open_may_fail r.worktree.now (bstr_bytes r.path)) (W.link_may_fail r.worktree.now (bstr_bytes r.path)) };
+    ghost stream_may_fail = { λ r. file_may_fail r.is_link (W.open_may_fail r.worktree.worktree.now (bstr_bytes r.path)) (W.link_may_fail r.worktree.worktree.now (bstr_bytes r.path)) };
 
     ghost blob_may_fail = { λ r. record { found = Err finds.Memory; may_find = O.find_may_fail r.objects.now r.id; is = refl } };
 

@@ -6,6 +6,7 @@
 pub mod disk;
 pub mod filter;
 pub mod folder;
+pub mod guarded;
 pub mod lister;
 pub mod memory;
 mod memory_calls;
@@ -21,6 +22,7 @@ pub mod tree;
 pub use disk::{DiskFile, DiskWorktree};
 pub use filter::{NoFilter, ToGit, ToGitOutcome};
 pub use folder::{Folder, PathBuffer};
+pub use guarded::GuardedWorktree;
 pub use lister::{Lister, Listing, NoLister};
 pub use memory::MemoryWorktree;
 pub use memory_file::MemoryFile;

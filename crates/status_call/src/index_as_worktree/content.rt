@@ -1,6 +1,8 @@
 //! Comparison of an entry's content, and when it is needed.
 
 ghost use Rattle.std.specs.Prelude.{◌≡◌, ◌==◌, not, ◌&&◌, ◌||◌, false};
+ghost use Rattle.bstr.specs.BStr.{bstr_bytes};
+ghost use Rattle.status_base.specs.Looked.{IsLookedAt, kind_read};
 ghost use Rattle.status_index.specs.BlobId.{is_empty_blob};
 ghost use Rattle.status_index.specs.Stat.{stat_agrees};
 ghost use Rattle.status_compare.specs.Reads.{no_reads};
@@ -13,7 +15,7 @@ use crate::index_as_worktree::step::Decided;
 use crate::index_as_worktree::types::{Change, EntryStatus, Error};
 use bstr::BStr;
 use status_base::worktree::{
-    Find, Lister, Metadata, NodeKind, Pathspec, SubmoduleStatus, ToGit, Worktree,
+    Find, GuardedWorktree, Lister, Metadata, NodeKind, Pathspec, SubmoduleStatus, ToGit, Worktree,
 };
 use status_compare::{CompareBlobs, EntryReader, Reads};
 use status_index::{Entry, Mode, Stat, stat};
@@ -58,6 +60,8 @@ pub(crate) fn compare_node<
     buffer: &mut Vec<u8>,
     candidate: &Candidate<'_>,
 ) -> Result<Comparison<C::Output>, Error>
+    requires looked { IsLookedAt (W.may_stat inputs.old.worktree.worktree.now) inputs.old.worktree.fscache (bstr_bytes candidate.now.path)
+        (kind_read (reads_link settings.fs.symlink candidate.now.entry.now.mode candidate.now.node.kind)) }
     ensures compared { IsContentCompared
         (⟦<Inputs<'w, W, C, S, O, P, T, L> as Ask>⟧.query inputs.old settings)
         (candidate_entry candidate.now) candidate.now.node result }
@@ -91,14 +95,16 @@ pub(crate) fn compare_node<
 }
 
 /// Returns a reader of a candidate's node and blob that has read nothing.
-fn reader_of<'w, 'r, W, T, O>(
-    worktree: &'w W,
+fn reader_of<'w, 'r, W: Worktree, T, O>(
+    worktree: GuardedWorktree<'w, W>,
     filter: &'r T,
     objects: &'r O,
     candidate: &'r Candidate<'_>,
     is_link: bool,
 ) -> EntryReader<'w, 'r, W, T, O>
-    ensures { result
+    requires looked { IsLookedAt (W.may_stat worktree.worktree.now) worktree.fscache (bstr_bytes candidate.now.path) (kind_read is_link) }
+    ensures { (looked : IsLookedAt (W.may_stat worktree.entry.worktree.now) worktree.entry.fscache (bstr_bytes candidate.now.path) (kind_read is_link))
+        → result
         ≡ record {
           worktree = worktree.entry;
           filter = filter.entry;
@@ -108,6 +114,7 @@ fn reader_of<'w, 'r, W, T, O>(
           is_link = is_link;
           len = candidate.now.node.len;
           reads = no_reads;
+          looked = looked;
         } }
 {
     EntryReader {

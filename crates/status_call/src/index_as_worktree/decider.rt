@@ -1,18 +1,19 @@
 //! The decider of entries over a worktree.
 
-ghost use Rattle.std.specs.Prelude.{◌≡◌, false, Option, Some, Result, IsTrue};
+ghost use Rattle.std.specs.Prelude.{◌≡◌, false, Option, Some, Result, IsTrue, IfOk};
 ghost use Rattle.std.proofs.Props.{props};
 ghost use Rattle.bstr.specs.BStr.{bstr_bytes};
 ghost use Rattle.status_base.specs.CheckState.{IsClear};
 ghost use Rattle.status_base.specs.ListedNodes.{known_node};
 ghost use Rattle.status_base.specs.ListingTable.{HasListedSeen};
+ghost use Rattle.status_base.specs.Looked.{IsLookedAt, kind_read};
 ghost use Rattle.status_base.specs.Sights.{IsOpen};
 ghost use Rattle.status_index.specs.Entries.{entry_at};
 ghost use Rattle.status_call.specs.EntrySights.{IsContentSeen, IsDirectorySeen, IsLookSeen, IsNodeSeen};
-ghost use Rattle.status_call.specs.LookUps.{Keeps};
+ghost use Rattle.status_call.specs.LookUps.{IfNode, IsNodeMet, Keeps};
 ghost use Rattle.status_call.specs.MayReturn.{ReturnsWithin};
 ghost use Rattle.status_compare.specs.Reads.{no_reads};
-ghost use Rattle.status_call.specs.Status.{directory_case};
+ghost use Rattle.status_call.specs.Status.{directory_case, reads_link};
 
 use crate::index_as_worktree::content::{
     Candidate, compare_node, decision_of, is_trusted, needs_comparison, unread,
@@ -41,9 +42,10 @@ pub struct Decider<'w, W: Worktree, C, S, O, P, T, L: Lister> {
     settings: Settings,
     known: Known,
     buffer: Vec<u8>,
-    ghost clear: { IsTrue (W.modelled inputs.worktree.now)
-        → IsClear (W.lstat_of inputs.worktree.now) known.check.path },
-    ghost opened: { ∥ IsOpen (W.may_stat inputs.worktree.now) known.check.path ∥₁ },
+    ghost guard: { inputs.worktree.fscache ≡ settings.fscache },
+    ghost clear: { IsTrue (W.modelled inputs.worktree.worktree.now)
+        → IsClear (W.lstat_of inputs.worktree.worktree.now) known.check.path },
+    ghost opened: { ∥ IsOpen (W.may_stat inputs.worktree.worktree.now) known.check.path ∥₁ },
     ghost listed: { ∥ HasListedSeen (L.may_list inputs.lister) known.listings ∥₁ },
     ghost kept: { Keeps (L.modelled inputs.lister)
         (L.listing inputs.lister) known.listings } by { Prim.hlevel props },
@@ -65,12 +67,13 @@ where
 {
     ghost use Rattle.status_call.specs.EntryParts.{IsCaseDecided, IsNodeDecided, IsContentDecided, IsLookAt, candidate_entry};
 
-    /// Makes a decider with these settings.
+    /// Makes a decider with these settings. They use listings exactly if the worktree's guard was told so.
     pub fn new(
         alloc: Global,
         inputs: Inputs<'w, W, C, S, O, P, T, L>,
         settings: Settings,
     ) -> Decider<'w, W, C, S, O, P, T, L>
+        requires guard { inputs.worktree.fscache ≡ settings.fscache }
         ensures query { ⟦<Decider<'w, W, C, S, O, P, T, L> as Decide>⟧.query result
             ≡ ⟦<Inputs<'w, W, C, S, O, P, T, L> as Ask>⟧.query inputs.entry settings }
         ensures inputs { result.inputs ≡ inputs.entry }
@@ -94,11 +97,13 @@ where
     /// A path that isn't normal, a fault other than one of absence, or out of memory.
     fn look(&mut self, path: BStr<'_>) -> Result<Look, Error>
         ensures look { IsTrue (⟦<Decider<'w, W, C, S, O, P, T, L> as Decide>⟧.query self.old).modelled
-            → IsLookAt (W.lstat_of self.old.inputs.worktree.now)
+            → IsLookAt (W.lstat_of self.old.inputs.worktree.worktree.now)
             (known_node self.old.settings.fscache (L.listing self.old.inputs.lister) (bstr_bytes path.entry))
             (bstr_bytes path.entry) result }
-        ensures seen { ∥ IsLookSeen (W.may_stat self.old.inputs.worktree.now)
+        ensures seen { ∥ IsLookSeen (W.may_stat self.old.inputs.worktree.worktree.now)
             (L.may_list self.old.inputs.lister) self.old.settings.fscache (bstr_bytes path.entry) result ∥₁ }
+        ensures met { IfOk result (λ look. IfNode look.presence (λ n. ∥ IsNodeMet (W.may_stat self.old.inputs.worktree.worktree.now)
+            self.old.settings.fscache (bstr_bytes path.entry) n ∥₁)) }
         ensures inputs { self.new.inputs ≡ self.old.inputs }
         ensures settings { self.new.settings ≡ self.old.settings }
     {
@@ -147,6 +152,8 @@ where
         &mut self,
         candidate: &Candidate<'_>,
     ) -> Result<Decided<C::Output, S::Output>, Error>
+        requires met { ∥ IsNodeMet (W.may_stat self.old.inputs.worktree.worktree.now) self.old.settings.fscache
+            (bstr_bytes candidate.now.path) candidate.now.node ∥₁ }
         ensures decided { IsNodeDecided
             (⟦<Decider<'w, W, C, S, O, P, T, L> as Decide>⟧.query self.old)
             (candidate_entry candidate.now) candidate.now.node result }
@@ -192,6 +199,8 @@ where
         stat: Stat,
         executable_bit_changed: bool,
     ) -> Result<Decided<C::Output, S::Output>, Error>
+        requires looked { IsLookedAt (W.may_stat self.old.inputs.worktree.worktree.now) self.old.settings.fscache (bstr_bytes candidate.now.path)
+            (kind_read (reads_link self.old.settings.fs.symlink candidate.now.entry.now.mode candidate.now.node.kind)) }
         ensures decided { IsContentDecided
             (⟦<Decider<'w, W, C, S, O, P, T, L> as Decide>⟧.query self.old)
             (candidate_entry candidate.now) candidate.now.node stat
@@ -286,6 +295,6 @@ where
     }
 
     ghost free = { λ d e. free_view (⟦<Inputs<'w, W, C, S, O, P, T, L> as Ask>⟧.may_return d.inputs) d.settings.fscache e
-        (W.stat_may_fail d.inputs.worktree.now) (W.open_may_fail d.inputs.worktree.now e.path)
-        (W.link_may_fail d.inputs.worktree.now e.path) (O.find_may_fail d.inputs.objects e.id) };
+        (W.stat_may_fail d.inputs.worktree.worktree.now) (W.open_may_fail d.inputs.worktree.worktree.now e.path)
+        (W.link_may_fail d.inputs.worktree.worktree.now e.path) (O.find_may_fail d.inputs.objects e.id) };
 }

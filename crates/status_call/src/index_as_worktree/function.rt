@@ -79,7 +79,14 @@ where
         (inputs_of worktree.entry compare submodule objects context.entry) options index.now result }
 {
     let should_interrupt = context.should_interrupt;
-    let inputs = Inputs::of(worktree, compare, submodule, objects, context);
+    let inputs = Inputs::of(
+        worktree,
+        options.fscache,
+        compare,
+        submodule,
+        objects,
+        context,
+    );
     let settings = Settings::of(&options, index);
     let mut decider = Decider::new(alloc, inputs, settings);
     let execution = Execution::of(alloc, &options, should_interrupt);
@@ -187,7 +194,14 @@ pub fn index_as_worktree_without_threads<
         options index.now V.visits collector.old result collector.new }
 {
     let should_interrupt = context.should_interrupt;
-    let inputs = Inputs::of(worktree, compare, submodule, objects, context);
+    let inputs = Inputs::of(
+        worktree,
+        options.fscache,
+        compare,
+        submodule,
+        objects,
+        context,
+    );
     let mut decider = Decider::new(alloc, inputs, Settings::of(&options, index));
     let execution = Execution::of(alloc, &options, should_interrupt);
     status_serially(index, &mut decider, &execution, collector)

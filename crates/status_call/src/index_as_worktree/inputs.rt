@@ -2,6 +2,7 @@
 
 ghost use Rattle.std.specs.Prelude.{◌≡◌, IfOk};
 ghost use Rattle.status_base.specs.ListedNodes.{known_node};
+ghost use Rattle.status_base.specs.Looked.{guarded};
 ghost use Rattle.status_call.specs.Inputs.{inputs_of, settings};
 ghost use Rattle.status_call.specs.Modelled.{all_modelled, are_modelled};
 ghost use Rattle.status_call.specs.MayReturn.{MayReturn, ReturnsWithin};
@@ -10,8 +11,8 @@ ghost use Rattle.status_call.specs.declared.index_as_worktree.inputs.Settings.{S
 
 use crate::index_as_worktree::types::{Capabilities, Context, Options};
 use status_base::worktree::{
-    Find, Lister, MemoryObjects, NoFilter, NoLister, NoSubmodules, Pathspec, SubmoduleStatus,
-    ToGit, Worktree,
+    Find, GuardedWorktree, Lister, MemoryObjects, NoFilter, NoLister, NoSubmodules, Pathspec,
+    SubmoduleStatus, ToGit, Worktree,
 };
 use status_compare::CompareBlobs;
 use status_index::{Moment, State, stat};
@@ -47,8 +48,8 @@ impl Settings {
 /// The worktree and the interfaces that a caller passes.
 #[derive(Drop)]
 pub struct Inputs<'w, W, C, S, O, P, T, L> {
-    /// The worktree.
-    pub worktree: &'w W,
+    /// The worktree. Files are opened and links are read only after a look.
+    pub worktree: GuardedWorktree<'w, W>,
     /// Compares a file with a blob.
     pub compare: C,
     /// Has the status of submodules.
@@ -63,16 +64,17 @@ pub struct Inputs<'w, W, C, S, O, P, T, L> {
     pub lister: L,
 }
 
-impl<'w, W, C, S, O, P, T, L> Inputs<'w, W, C, S, O, P, T, L> {
-    /// Returns the inputs that a call gets.
+impl<'w, W: Worktree, C, S, O, P, T, L> Inputs<'w, W, C, S, O, P, T, L> {
+    /// Returns the inputs that a call gets, with the worktree behind a guard.
     pub(crate) fn of(
         worktree: &'w W,
+        fscache: bool,
         compare: C,
         submodule: S,
         objects: O,
         context: Context<'_, P, T, L>,
     ) -> Inputs<'w, W, C, S, O, P, T, L>
-        ensures { result ≡ inputs_of worktree.entry compare submodule objects context.entry }
+        ensures { result ≡ record (inputs_of worktree.entry compare submodule objects context.entry) { worktree = guarded worktree.entry fscache } }
     {
         let Context {
             pathspec,
@@ -81,7 +83,7 @@ impl<'w, W, C, S, O, P, T, L> Inputs<'w, W, C, S, O, P, T, L> {
             should_interrupt: _,
         } = context;
         Inputs {
-            worktree,
+            worktree: GuardedWorktree::new(worktree, fscache),
             compare,
             submodule,
             objects,
@@ -140,16 +142,16 @@ impl<
     type Submodule = S::Output;
 
     ghost query = { λ i settings. record {
-      modelled = all_modelled (W.modelled i.worktree.now) (O.modelled i.objects)
+      modelled = all_modelled (W.modelled i.worktree.worktree.now) (O.modelled i.objects)
           (S.modelled i.submodule)
           (are_modelled settings.fscache (L.modelled i.lister));
       stat_options = settings.stat;
       symlink = settings.fs.symlink;
       executable_bit = settings.fs.executable_bit;
       timestamp = settings.timestamp;
-      lstat = λ _. W.lstat_of i.worktree.now;
-      opened = λ e. W.open_of i.worktree.now e.path;
-      linked = λ e. W.target_of i.worktree.now e.path;
+      lstat = λ _. W.lstat_of i.worktree.worktree.now;
+      opened = λ e. W.open_of i.worktree.worktree.now e.path;
+      linked = λ e. W.target_of i.worktree.worktree.now e.path;
       cached = λ e. known_node settings.fscache (L.listing i.lister) e.path;
       prefix = P.prefix i.pathspec;
       included = P.included i.pathspec;
@@ -161,9 +163,9 @@ impl<
     } };
 
     ghost may_return = { λ i. record {
-      stat = W.may_stat i.worktree.now;
-      opened = W.may_open i.worktree.now;
-      linked = W.may_link i.worktree.now;
+      stat = W.may_stat i.worktree.worktree.now;
+      opened = W.may_open i.worktree.worktree.now;
+      linked = W.may_link i.worktree.worktree.now;
       listed = L.may_list i.lister;
       found = O.may_find i.objects;
       reported = S.may_report i.submodule;

@@ -1,25 +1,27 @@
 //! The look-up of the node at an entry's path.
 
-ghost use Rattle.std.specs.Prelude.{◌≡◌, ◌&&◌, Bool, false, IfOk, IfSome, IsTrue, None, Ok, Result};
+ghost use Rattle.std.specs.Prelude.{◌≡◌, ◌≢◌, ◌&&◌, Bool, false, IfOk, IfSome, IsTrue, None, Ok, Result};
 ghost use Rattle.bstr.specs.BStr.{bstr_bytes};
 ghost use Rattle.status_base.specs.CheckState.{IsClear};
 ghost use Rattle.status_base.specs.LinkCheck.{LinkCheck};
 ghost use Rattle.status_base.specs.CheckAnswers.{IsCheckError};
 ghost use Rattle.status_index.specs.declared.stat.Metadata.{Metadata as NodeMetadata};
+ghost use Rattle.status_index.specs.declared.stat.NodeKind.TheVariants.{Directory};
 ghost use Rattle.status_index.specs.declared.fault.Fault.{Fault as WorktreeFault};
 ghost use Rattle.status_base.specs.ListingTable.{HasListedSeen};
 ghost use Rattle.status_base.specs.Sights.{IsOpen};
+ghost use Rattle.status_call.specs.declared.index_as_worktree.lookup.AtPath.TheVariants.{Nothing};
 ghost use Rattle.status_call.specs.EntryParts.{IsLook};
 ghost use Rattle.status_call.specs.EntrySights.{IsLookSeen, IsNodeListed};
 ghost use Rattle.status_call.specs.Counts.{is_accepted};
-ghost use Rattle.status_call.specs.LookUps.{IsLookUp, IsKnownByListings, Keeps};
+ghost use Rattle.status_call.specs.LookUps.{IfNode, IsLookUp, IsNodeMet, IsKnownByListings, Keeps};
 ghost use Rattle.status_call.specs.Status.{found_by, found_fault, found_node};
 
 use crate::index_as_worktree::types::Error;
 use bstr::BStr;
 use status_base::fscache::Listings;
 use status_base::stack::{StackError, SymlinkCheck};
-use status_base::worktree::{Fault, Lister, Metadata, NodeKind, Worktree};
+use status_base::worktree::{Fault, GuardedWorktree, Lister, Metadata, NodeKind, Worktree};
 use std::alloc::AllocError;
 
 /// The node at an entry's path.
@@ -57,30 +59,32 @@ pub(crate) struct Known {
 /// # Errors
 /// A path that isn't normal, a fault other than one of absence, or out of memory.
 pub(crate) fn look_up<W: Worktree, L: Lister>(
-    worktree: &W,
+    worktree: GuardedWorktree<'_, W>,
     known: &mut Known,
     fscache: bool,
     lister: &L,
     path: BStr<'_>,
 ) -> Result<Look, Error>
-    ensures look { IsTrue (W.modelled worktree.now)
+    ensures look { IsTrue (W.modelled worktree.entry.worktree.now)
         → IsLookUp fscache (L.modelled lister.now) (L.listing lister.now) known.old.listings
         (bstr_bytes path.entry)
-        (W.lstat_of worktree.now) known.old.check.path result }
-    ensures seen { IsOpen (W.may_stat worktree.now) known.old.check.path
+        (W.lstat_of worktree.entry.worktree.now) known.old.check.path result }
+    ensures seen { IsOpen (W.may_stat worktree.entry.worktree.now) known.old.check.path
         → HasListedSeen (L.may_list lister.now) known.old.listings
-        → IsLookSeen (W.may_stat worktree.now) (L.may_list lister.now) fscache (bstr_bytes path.entry) result }
-    ensures opened { IsOpen (W.may_stat worktree.now) known.old.check.path
-        → IsOpen (W.may_stat worktree.now) known.new.check.path }
-    ensures clear { IsTrue (W.modelled worktree.now)
-        → IsClear (W.lstat_of worktree.now) known.old.check.path
-        → IsClear (W.lstat_of worktree.now) known.new.check.path }
+        → IsLookSeen (W.may_stat worktree.entry.worktree.now) (L.may_list lister.now) fscache (bstr_bytes path.entry) result }
+    ensures met { IsOpen (W.may_stat worktree.entry.worktree.now) known.old.check.path
+        → IfOk result (λ look. IfNode look.presence (IsNodeMet (W.may_stat worktree.entry.worktree.now) fscache (bstr_bytes path.entry))) }
+    ensures opened { IsOpen (W.may_stat worktree.entry.worktree.now) known.old.check.path
+        → IsOpen (W.may_stat worktree.entry.worktree.now) known.new.check.path }
+    ensures clear { IsTrue (W.modelled worktree.entry.worktree.now)
+        → IsClear (W.lstat_of worktree.entry.worktree.now) known.old.check.path
+        → IsClear (W.lstat_of worktree.entry.worktree.now) known.new.check.path }
     ensures kept { Keeps (L.modelled lister.now) (L.listing lister.now) known.old.listings
         → Keeps (L.modelled lister.now) (L.listing lister.now) known.new.listings }
     ensures seen_kept { HasListedSeen (L.may_list lister.now) known.old.listings
         → HasListedSeen (L.may_list lister.now) known.new.listings }
 {
-    if let Err(error) = known.check.verified_path(worktree, path) {
+    if let Err(error) = worktree.verify(&mut known.check, path) {
         return look_refused(error);
     }
     if let Some(node) = known_at(fscache, lister, &mut known.listings, path)? {
@@ -123,7 +127,8 @@ fn known_at<L: Lister>(
 
 /// Returns the look-up of a node that was found.
 fn look_at(node: Metadata, lstat_called: bool) -> Look
-    ensures { IsLook (found_node (Ok node)) lstat_called (Ok result) }
+    ensures look { IsLook (found_node (Ok node)) lstat_called (Ok result) }
+    ensures node { IfNode result.presence (λ n. (n ≡ node) × (n.kind ≢ Directory)) }
 {
     let presence = match node.kind {
         NodeKind::Directory => AtPath::Directory,
@@ -140,7 +145,8 @@ fn look_at(node: Metadata, lstat_called: bool) -> Look
 /// # Errors
 /// A path that isn't normal, a fault other than one of absence, or out of memory.
 fn look_refused(error: StackError<'_>) -> Result<Look, Error>
-    ensures { (check : LinkCheck) (node : Result NodeMetadata WorktreeFault) (unknown : Bool)
+    ensures nothing { IfOk result (λ look. look.presence ≡ Nothing) }
+    ensures look { (check : LinkCheck) (node : Result NodeMetadata WorktreeFault) (unknown : Bool)
         → IsCheckError check error.entry
         → IsLook (found_by check node) (is_accepted check && unknown) result }
 {
@@ -162,7 +168,8 @@ fn look_refused(error: StackError<'_>) -> Result<Look, Error>
 /// # Errors
 /// A fault other than one of absence.
 fn look_at_fault(fault: Fault, lstat_called: bool) -> Result<Look, Error>
-    ensures { IsLook (found_fault fault) lstat_called result }
+    ensures nothing { IfOk result (λ look. look.presence ≡ Nothing) }
+    ensures look { IsLook (found_fault fault) lstat_called result }
 {
     match fault {
         Fault::NotFound | Fault::NotADirectory => Ok(Look {

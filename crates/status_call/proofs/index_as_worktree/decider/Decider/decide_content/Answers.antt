@@ -1,4 +1,4 @@
-use Rattle.std.proofs.Common.{ap, refl, rules}
+use Rattle.std.proofs.Common.{ap, refl, rules, sym, subst, Bool}
 use Rattle.std.proofs.lemmas.Result.{err_from_is_err_and}
 use Rattle.bstr.specs.BStr.{bstr_bytes}
 use Rattle.status_index.specs.Entries.{entry_at}
@@ -7,6 +7,8 @@ use Rattle.status_call.specs.Modelled.{all_modelled, are_modelled}
 use Rattle.status_call.specs.Query.{Query}
 use Rattle.status_call.specs.declared.index_as_worktree.inputs.Settings.{Settings}
 use Rattle.status_base.specs.ListedNodes.{known_node}
+use Rattle.status_base.specs.Looked.{IsLookedAt, kind_read}
+use Rattle.status_call.specs.Status.{reads_link}
 use Rattle.status_call.specs.EntrySights.{viewed}
 use Rattle.status_call.specs.Views.{nothing_seen}
 use Rattle.status_call.proofs.EntryCases.{compared_of_case}
@@ -14,7 +16,7 @@ use Rattle.status_call.proofs.SightCases.{comparison_failed, unread_of_case}
 use Rattle.status_call.proofs.index_as_worktree.decider.Decider.decide_content.Goals as goal
 
 pub invariant_of-self : goal.invariant_of-self
-invariant_of-self g c = record { clear = rw c.compare_node.ensures.only c.args.self.now.clear; opened = rw c.compare_node.ensures.only c.args.self.now.opened; listed = rw c.compare_node.ensures.only c.args.self.now.listed; kept = rw c.compare_node.ensures.only c.args.self.now.kept }
+invariant_of-self g c = record { guard = rw c.compare_node.ensures.only c.args.self.now.guard; clear = rw c.compare_node.ensures.only c.args.self.now.clear; opened = rw c.compare_node.ensures.only c.args.self.now.opened; listed = rw c.compare_node.ensures.only c.args.self.now.listed; kept = rw c.compare_node.ensures.only c.args.self.now.kept }
 
 pub returns-in_err-comparison-clause-same : goal.returns-in_err-comparison-clause-same
 returns-in_err-comparison-clause-same g c =
@@ -34,15 +36,15 @@ returns-clause-decided g c =
     let i = c.args.self.now.inputs in
     let s = c.args.self.now.settings in
     let q : Query g.row.C-Output.Denot g.row.S-Output.Denot = record {
-      modelled = all_modelled (g.W.Worktree.modelled i.worktree.now) (g.O.Find.modelled i.objects) (g.S.SubmoduleStatus.modelled i.submodule)
+      modelled = all_modelled (g.W.Worktree.modelled i.worktree.worktree.now) (g.O.Find.modelled i.objects) (g.S.SubmoduleStatus.modelled i.submodule)
           (are_modelled s.fscache (g.L.Lister.modelled i.lister));
       stat_options = s.stat;
       symlink = s.fs.symlink;
       executable_bit = s.fs.executable_bit;
       timestamp = s.timestamp;
-      lstat = λ _. g.W.Worktree.lstat_of i.worktree.now;
-      opened = λ e. g.W.Worktree.open_of i.worktree.now e.path;
-      linked = λ e. g.W.Worktree.target_of i.worktree.now e.path;
+      lstat = λ _. g.W.Worktree.lstat_of i.worktree.worktree.now;
+      opened = λ e. g.W.Worktree.open_of i.worktree.worktree.now e.path;
+      linked = λ e. g.W.Worktree.target_of i.worktree.worktree.now e.path;
       cached = λ e. known_node s.fscache (g.L.Lister.listing i.lister) e.path;
       prefix = g.P.Pathspec.prefix i.pathspec;
       included = g.P.Pathspec.included i.pathspec;
@@ -65,7 +67,7 @@ returns-then-not-compares-clause-seen g c =
     let e = candidate_entry c.args.candidate.now in
     record {
       view = nothing_seen;
-      allowed = record { opened = g.met.W.Worktree.open_may_fail i.worktree.now e.path; linked = g.met.W.Worktree.link_may_fail i.worktree.now e.path; blob = g.met.O.Find.find_may_fail i.objects e.id };
+      allowed = record { opened = g.met.W.Worktree.open_may_fail i.worktree.worktree.now e.path; linked = g.met.W.Worktree.link_may_fail i.worktree.worktree.now e.path; blob = g.met.O.Find.find_may_fail i.objects e.id };
       decided = λ _. unread_of_case (viewed c.args.self.now.settings (g.T.ToGit.conversion i.filter) (g.C.CompareBlobs.answer i.compare) (g.C.CompareBlobs.counts_after i.compare) nothing_seen) e c.args.candidate.now.node c.args.stat c.args.executable_bit_changed c.is_trusted-trusted.result c.is_racy-racy.result c.needs_comparison-compares.result _ _
           c.is_trusted-trusted.ensures c.is_racy-racy.ensures c.needs_comparison-compares.ensures c.if-not-compares.true c.unread.ensures;
     }
@@ -97,3 +99,10 @@ returns-clause-seen g c =
       decided = λ _. compared_of_case q e n c.args.stat c.args.executable_bit_changed c.is_trusted-trusted.result c.is_racy-racy.result c.needs_comparison-compares.result c.in_ok-comparison.comparison.change (counted_of q e n) c.decision_of.result
           c.is_trusted-trusted.ensures c.is_racy-racy.ensures c.needs_comparison-compares.ensures c.if-not-compares.false compared.0 (c.decision_of.ensures e.path (counted_of q e n) compared.1);
     }
+
+pub compare_node-requires : goal.compare_node-requires
+compare_node-requires g c =
+    let i = c.args.self.now.inputs in
+    let s = c.args.self.now.settings in
+    let candidate = c.args.candidate.now in
+    record { looked = subst (λ (listed : Bool). IsLookedAt (g.W.Worktree.may_stat i.worktree.worktree.now) listed (bstr_bytes candidate.path) (kind_read (reads_link s.fs.symlink candidate.entry.now.mode candidate.node.kind))) (sym c.args.self.now.guard) c.requires.looked }

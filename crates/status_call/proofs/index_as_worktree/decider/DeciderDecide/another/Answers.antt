@@ -11,3 +11,6 @@ returns-clause-same g c =
 pub returns-clause-within : goal.returns-clause-within
 returns-clause-within g c = λ e v h.
     allowed_within e v c.args.self.now.settings.fscache c.in_ok-inputs.ensures.within (rw (c.new.ensures.inputs, c.new.ensures.settings) at h)
+
+pub new-requires : goal.new-requires
+new-requires g c = record { guard = rw c.in_ok-inputs.ensures.worktree c.args.self.now.guard }
