@@ -1,7 +1,12 @@
 mod Auto
 mod Binary
+mod FolderBarriers
+mod FolderFronts
+mod FolderSights
+mod FoundFiles
 mod Giving
 mod Items
+mod KnownFiles
 mod Matching
 mod Leaving
 mod Lines

@@ -1,5 +1,6 @@
 pub mod Assignments
 pub mod Files
+pub mod FolderSteps
 pub mod Items
 pub mod LineEnds
 pub mod Lines
@@ -13,3 +14,4 @@ pub mod Text
 pub mod Views
 pub mod Wildmatch
 pub mod Words
+pub mod WorktreeFiles

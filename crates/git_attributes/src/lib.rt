@@ -4,7 +4,7 @@
 //! `attributes` has the states that `files` give to a path's attributes: it reads their lines (`line`), which have a
 //! pattern or a macro, and assignments (`assignment`), between blanks or in quotes (`words`). `pattern` reads a
 //! pattern's pieces and sets of bytes (`set`), and `table` compares paths with them. `laws` has the law of
-//! these comparisons.
+//! these comparisons. `worktree_files` finds the attribute files within a worktree.
 #![tactic(auto)]
 
 pub mod assignment;
@@ -18,6 +18,7 @@ mod pattern;
 mod set;
 mod table;
 mod words;
+pub mod worktree_files;
 
 pub use assignment::{Assignment, Value};
 pub use attributes::{Attributes, Source};
@@ -26,3 +27,4 @@ pub use line_ends::{LineEnds, ids_decide_as_git_does};
 pub use normalization::{
     Normalization, is_binary, is_unconverted, normalization_of, push_normalized,
 };
+pub use worktree_files::{ATTRIBUTES_LIMIT, WorktreeAttributeFiles};

@@ -1,0 +1,18 @@
+use Rattle.std.proofs.Common.{[], length, map}
+use Rattle.status_index.specs.Entries.{index_entries}
+use Rattle.status_index.specs.States.{backing_of, index_of}
+use Rattle.status_base.specs.Sights.{IsOpen}
+use Rattle.git_attributes.specs.Views.{file_view}
+use Rattle.git_attributes.specs.WorktreeFiles.{folders_after, folders_of}
+use Rattle.git_attributes.proofs.FoundFiles.{IsWalked}
+use Rattle.git_attributes.proofs.worktree_files.FolderSearch.files.Given as goal
+
+abbrev pub invariant-entries : goal.invariant-entries
+invariant-entries g l =
+    IsOpen (g.W.Worktree.may_stat l.self.worktree.now) l.check.path
+    × IsWalked (g.W.Worktree.may_stat l.self.worktree.now) (g.W.Worktree.may_open l.self.worktree.now)
+    (folders_of (index_of l.self.index.now)) (folders_after l.before (index_entries (backing_of l.self.index.now) l.rest))
+    [] (map file_view l.files.items)
+
+abbrev pub decreases-entries : goal.decreases-entries
+decreases-entries g l = length l.rest

@@ -1,0 +1,302 @@
+//! The attribute files within a worktree.
+
+ghost use Rattle.std.specs.Prelude.{◌≡◌, ◌≤◌, [], ◌∷◌, IfOk, OnOk, None, length, take, drop, map, option_map};
+ghost use Rattle.bstr.specs.BStr.{bstr_bytes};
+ghost use Rattle.status_index.specs.States.{index_of};
+ghost use Rattle.status_base.specs.CheckAnswers.{IsCheckError};
+ghost use Rattle.status_base.specs.Common.{IsCommon};
+ghost use Rattle.status_base.specs.LinkCheck.{LinkCheck};
+ghost use Rattle.status_base.specs.Sights.{IsOpen};
+ghost use Rattle.git_attributes.specs.Views.{file_view};
+ghost use Rattle.git_attributes.specs.WorktreeFiles.{AreFilesSeen, at_fault, file_of, file_path, folders_from, folders_of, found, new_folders, nothing, up_to_long};
+ghost use Rattle.git_attributes.specs.FolderSteps.{AreAdded, IsFolderAdded, IsNextFolder, IsOpenSeen, IsPathSeen, IsReadSeen, IsRefusalOf};
+
+use crate::files::{AttributeFile, AttributeFiles};
+use crate::words::first_at;
+use bstr::{BStr, BString};
+use status_base::stack::{StackError, SymlinkCheck};
+use status_base::worktree::{Fault, NodeKind, Worktree};
+use status_index::{State, read_all};
+use std::alloc::{AllocError, Global};
+use std::sync::atomic::{AtomicBool, Ordering};
+
+/// The name of attribute files within a worktree.
+const NAME: &[u8] = b".gitattributes";
+
+/// The length of a path from which on the system refuses it (Linux's `PATH_MAX`).
+const PATH_LIMIT: usize = 4096;
+
+/// As git does, an attribute file of so many bytes or more is left out.
+pub const ATTRIBUTES_LIMIT: usize = 100 << 20;
+
+/// Finds the attribute files within a worktree: of its top, and of each folder on the way to the path of an entry.
+///
+/// As in git, a file that can't be read counts as none, and so does a link. A folder isn't searched if its path isn't normal
+/// or leads through a link, so no file outside is opened. Unlike git, a file that is only in the index isn't read: then
+/// `unread` becomes true, if its folder is in the worktree.
+#[derive(Drop)]
+pub struct WorktreeAttributeFiles<'a, W> {
+    /// The worktree.
+    pub worktree: &'a W,
+    /// Becomes true if git would read a file that is only in the index.
+    pub unread: &'a AtomicBool,
+}
+
+impl<W: Worktree> AttributeFiles for WorktreeAttributeFiles<'_, W> {
+    ghost are_files = { λ finder index files. AreFilesSeen (W.may_stat finder.worktree.now) (W.may_open finder.worktree.now) (folders_of (index_of index)) files };
+
+    fn find(&self, alloc: Global, index: &State) -> Result<Vec<AttributeFile>, AllocError> {
+        let search = FolderSearch {
+            alloc,
+            worktree: self.worktree,
+            index,
+            unread: self.unread,
+        };
+        search.files()
+    }
+}
+
+/// What is at the path of an attribute file.
+#[derive(Drop)]
+enum Found {
+    /// A file, with these bytes.
+    File(Vec<u8>),
+    /// No file that can be read.
+    NoFile,
+    /// Neither a file nor a folder that may have one.
+    NoFolder,
+}
+
+/// A search of a worktree's folders for the attribute files of an index.
+#[derive(Drop)]
+struct FolderSearch<'s, W> {
+    alloc: Global,
+    worktree: &'s W,
+    index: &'s State,
+    unread: &'s AtomicBool,
+}
+
+impl<W: Worktree> FolderSearch<'_, W> {
+    /// Returns the files of the worktree's top and of the folders on the way to the entries' paths.
+    fn files(&self) -> Result<Vec<AttributeFile>, AllocError>
+        ensures { IfOk result (λ files. AreFilesSeen (W.may_stat self.now.worktree.now) (W.may_open self.now.worktree.now) (folders_of (index_of self.now.index.now)) (map file_view files.items)) }
+    {
+        let mut check = SymlinkCheck::new(self.alloc, BString::new(Vec::new(self.alloc)));
+        let mut files = Vec::new(self.alloc);
+        self.add_file(b"", &mut check, &mut files)?;
+        let mut before: &[u8] = b"";
+        let mut rest = self.index.entries();
+        'entries: while let [entry, after @ ..] = rest {
+            let path = entry.path_in(self.index.path_backing()).as_bytes();
+            self.add_new(before, path, &mut check, &mut files)?;
+            before = path;
+            rest = after;
+        }
+        Ok(files)
+    }
+
+    /// Adds the files of the folders on the way to a path that aren't on the way to the path before it.
+    fn add_new(
+        &self,
+        before: &[u8],
+        path: &[u8],
+        check: &mut SymlinkCheck,
+        files: &mut Vec<AttributeFile>,
+    ) -> Result<(), AllocError>
+        requires { IsOpen (W.may_stat self.now.worktree.now) check.old.path }
+        ensures opened { IsOpen (W.may_stat self.now.worktree.now) check.new.path }
+        ensures added { OnOk result (AreAdded (W.may_stat self.now.worktree.now) (W.may_open self.now.worktree.now) (up_to_long (new_folders before.now path.now)) (map file_view files.old.items) (map file_view files.new.items)) }
+    {
+        self.add_folders(path, common_front(before, path), check, files)
+    }
+
+    /// Adds the files of the folders on the way to a path, from those of more than `from` bytes on. Nothing is looked at below a
+    /// folder that isn't in the worktree.
+    fn add_folders(
+        &self,
+        path: &[u8],
+        from: usize,
+        check: &mut SymlinkCheck,
+        files: &mut Vec<AttributeFile>,
+    ) -> Result<(), AllocError>
+        requires within { from ≤ length path.now }
+        requires opened { IsOpen (W.may_stat self.now.worktree.now) check.old.path }
+        ensures opened { IsOpen (W.may_stat self.now.worktree.now) check.new.path }
+        ensures added { OnOk result (AreAdded (W.may_stat self.now.worktree.now) (W.may_open self.now.worktree.now) (up_to_long (folders_from (take from path.now) (drop from path.now))) (map file_view files.old.items) (map file_view files.new.items)) }
+    {
+        let mut at = from;
+        'folders: while let Some(end) = folder_end(path, at) {
+            if !self.add_file(&path[..end], check, files)? {
+                return Ok(());
+            }
+            if end >= PATH_LIMIT {
+                return Ok(());
+            }
+            at = end;
+        }
+        Ok(())
+    }
+
+    /// Adds the file of a folder, if there is one that can be read. Returns whether there may be folders below.
+    fn add_file(
+        &self,
+        folder: &[u8],
+        check: &mut SymlinkCheck,
+        files: &mut Vec<AttributeFile>,
+    ) -> Result<bool, AllocError>
+        requires { IsOpen (W.may_stat self.now.worktree.now) check.old.path }
+        ensures opened { IsOpen (W.may_stat self.now.worktree.now) check.new.path }
+        ensures added { IfOk result (λ goes_on. IsFolderAdded (W.may_stat self.now.worktree.now) (W.may_open self.now.worktree.now) folder.now goes_on (map file_view files.old.items) (map file_view files.new.items)) }
+    {
+        let path = self.path_in(folder)?;
+        let path = BStr::new(path.as_slice());
+        match self.find_at(path, check)? {
+            Found::File(bytes) => {
+                files.push(new_file(self.alloc, folder, bytes)?)?;
+                Ok(true)
+            }
+            Found::NoFile => {
+                self.note_unread(folder, path)?;
+                Ok(true)
+            }
+            Found::NoFolder => Ok(false),
+        }
+    }
+
+    /// Returns the path of a folder's attribute file.
+    fn path_in(&self, folder: &[u8]) -> Result<Vec<u8>, AllocError>
+        ensures { IfOk result (λ path. path.items ≡ file_path folder.now) }
+    {
+        let mut path = Vec::from_slice(self.alloc, folder)?;
+        path.extend_from_slice(NAME)?;
+        Ok(path)
+    }
+
+    /// Returns what is at the path of an attribute file.
+    fn find_at(&self, path: BStr<'_>, check: &mut SymlinkCheck) -> Result<Found, AllocError>
+        requires { IsOpen (W.may_stat self.now.worktree.now) check.old.path }
+        ensures opened { IsOpen (W.may_stat self.now.worktree.now) check.new.path }
+        ensures seen { IfOk result (IsPathSeen (W.may_stat self.now.worktree.now) (W.may_open self.now.worktree.now) (bstr_bytes path.entry)) }
+    {
+        match check.verified_path(self.worktree, path) {
+            Ok(_) => match self.read_file(path)? {
+                Some(bytes) => Ok(Found::File(bytes)),
+                None => Ok(Found::NoFile),
+            },
+            Err(error) => found_barred(error),
+        }
+    }
+
+    /// Returns the bytes of the file at a path. None if there is none that can be read. Links aren't opened, since they may lead
+    /// to a device, and neither are files that are too large.
+    fn read_file(&self, path: BStr<'_>) -> Result<Option<Vec<u8>>, AllocError>
+        ensures { IfOk result (λ read. IsReadSeen (W.may_stat self.now.worktree.now (bstr_bytes path.entry)) (W.may_open self.now.worktree.now (bstr_bytes path.entry)) (option_map (λ bytes. bytes.items) read)) }
+    {
+        match self.worktree.lstat(path) {
+            Ok(node) if node.kind == NodeKind::File && node.len < ATTRIBUTES_LIMIT as u64 => {
+                read_open(self.alloc, self.worktree, path)
+            }
+            Ok(_) => Ok(None),
+            Err(fault) => none_unless_memory(fault),
+        }
+    }
+
+    /// Notes that git would read a file that is only in the index, if its folder may be in the worktree.
+    fn note_unread(&self, folder: &[u8], path: BStr<'_>) -> Result<(), AllocError> {
+        if !self.index.entries_at(path).is_empty() && self.may_have(folder)? {
+            self.unread.store(true, Ordering::Relaxed);
+        }
+        Ok(())
+    }
+
+    /// Returns whether the worktree may have files in a folder, whose path ends with a slash.
+    fn may_have(&self, folder: &[u8]) -> Result<bool, AllocError> {
+        let [path @ .., _] = folder else {
+            return Ok(true);
+        };
+        match self.worktree.lstat(BStr::new(path)) {
+            Ok(node) => Ok(node.kind == NodeKind::Directory),
+            Err(Fault::Memory) => Err(AllocError),
+            Err(Fault::NotFound | Fault::NotADirectory) => Ok(false),
+            Err(_) => Ok(true),
+        }
+    }
+}
+
+/// Returns the attribute file of a folder, with these bytes.
+fn new_file(alloc: Global, folder: &[u8], bytes: Vec<u8>) -> Result<AttributeFile, AllocError>
+    ensures { IfOk result (λ file. file_view file ∷ [] ≡ file_of folder.now (found bytes.items)) }
+{
+    Ok(AttributeFile {
+        folder: Vec::from_slice(alloc, folder)?,
+        has_macros: folder.is_empty(),
+        bytes,
+    })
+}
+
+/// Returns what is at a path that the link check refuses.
+fn found_barred(error: StackError<'_>) -> Result<Found, AllocError>
+    ensures { (check : LinkCheck) → IsCheckError check error.entry → IfOk result (IsRefusalOf check) }
+{
+    match error {
+        StackError::Memory | StackError::Fault(Fault::Memory) => Err(AllocError),
+        StackError::EmptyPath | StackError::NotNormal { .. } | StackError::ThroughLink { .. } => Ok(
+            Found::NoFolder,
+        ),
+        StackError::Fault(Fault::NotFound | Fault::NotADirectory) => Ok(Found::NoFolder),
+        StackError::Fault(_) => Ok(Found::NoFile),
+    }
+}
+
+/// Opens the file at a path, and returns its bytes. None if it can't be read.
+fn read_open<W: Worktree>(
+    alloc: Global,
+    worktree: &W,
+    path: BStr<'_>,
+) -> Result<Option<Vec<u8>>, AllocError>
+    ensures { IfOk result (λ read. IsOpenSeen (W.may_open worktree.now (bstr_bytes path.entry)) (option_map (λ bytes. bytes.items) read)) }
+{
+    let mut file = match worktree.open(path) {
+        Ok(file) => file,
+        Err(fault) => return none_unless_memory(fault),
+    };
+    let mut bytes = Vec::new(alloc);
+    match read_all(&mut file, &mut bytes) {
+        Ok(()) => Ok(Some(bytes)),
+        Err(fault) => none_unless_memory(fault),
+    }
+}
+
+/// Returns that no file can be read, unless memory ran out.
+fn none_unless_memory(fault: Fault) -> Result<Option<Vec<u8>>, AllocError>
+    ensures { IfOk result (λ read. (read ≡ None) × (at_fault fault ≡ nothing)) }
+{
+    match fault {
+        Fault::Memory => Err(AllocError),
+        _ => Ok(None),
+    }
+}
+
+/// Returns the position after the next slash of a path, where the path of a folder ends.
+fn folder_end(path: &[u8], at: usize) -> Option<usize>
+    requires { at ≤ length path.now }
+    ensures { IsNextFolder path.now at result }
+{
+    match first_at(b'/', &path[at..]) {
+        Some(slash) => Some(at + slash + 1),
+        None => None,
+    }
+}
+
+/// Returns how many bytes two paths have in common at their start.
+fn common_front(one: &[u8], other: &[u8]) -> usize
+    ensures { IsCommon one.now other.now result }
+{
+    let shorter = one.len().min(other.len());
+    for at in 0..shorter {
+        if one[at] != other[at] {
+            return at;
+        }
+    }
+    shorter
+}
