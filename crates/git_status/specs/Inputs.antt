@@ -1,7 +1,9 @@
 -- A status is computed from the worktree, the submodules and the paths that are asked about, comparison by sizes and ids, this
 -- conversion of line ends, no blobs and no listings.
 use Rattle.std.specs.FinMap as ids
+use Rattle.std.specs.Prelude.{false}
 use Rattle.git_attributes.specs.declared.line_ends.LineEnds.{LineEnds}
+use Rattle.status_base.specs.Looked.{guarded}
 use Rattle.status_base.specs.Objects.{Contents}
 use Rattle.status_base.specs.declared.worktree.lister.NoLister.{NoLister}
 use Rattle.status_call.specs.declared.index_as_worktree.inputs.Inputs.{Inputs}
@@ -10,7 +12,7 @@ use Rattle.git_status.specs.declared.asked.Asked.{Asked}
 
 abbrev pub asked_inputs : {W S P A : Type 0} → Asked W S P A → LineEnds → Inputs W FastEq S Contents P LineEnds NoLister
 asked_inputs asked filter = record {
-  worktree = asked.worktree;
+  worktree = guarded asked.worktree false;
   compare = record {};
   submodule = asked.submodules;
   objects = ids.empty;
