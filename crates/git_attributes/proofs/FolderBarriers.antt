@@ -63,7 +63,7 @@ more_directories path n (suc k) within =
           (more.0 ++ last path k, ap (λ (v : List (List ℕ)). v ++ last path k) more.1 ∙ append_assoc (directories_below path n) more.0 (last path k)))
     ]
 
--- and no others if no slash is behind
+-- and no others if no slash follows
 bare_directories : (path : List ℕ) (n k : ℕ) → n ≤ k → ((j : ℕ) → n ≤ j → j < k → is_slash (slice_index path j) ≡ false) → directories_below path k ≡ directories_below path n
 bare_directories path n zero within bare =
     let same : n ≡ 0 = omega arith in sym (ap (directories_below path) same)

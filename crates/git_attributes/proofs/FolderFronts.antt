@@ -154,7 +154,7 @@ kept_behind : (one path ys : List ℕ) (n : ℕ) → IsCommon one path n → dro
 kept_behind one path [] n common is = refl
 kept_behind one path (b ∷ ys) n common is = all_new one (take n path) b ys (never_begins one path ys n b common is)
 
--- the folders that aren't on the way to another path are those behind what the paths have in common
+-- the folders that aren't on the way to another path are those after the front that the paths have in common
 pub new_folders_are : (one path : List ℕ) (n : ℕ) → IsCommon one path n → new_folders one path ≡ folders_from (take n path) (drop n path)
 new_folders_are one path n common =
     let begins : one ≡ ([] ++ take n path) ++ drop n one = sym (take-append-drop n one) ∙ ap (λ (v : List ℕ). v ++ drop n one) common.same in

@@ -30,7 +30,7 @@ all_step : (P : List ℕ → Type 0) (b : Bool) (f : List ℕ) (fs : List (List 
 all_step P true f fs here all = All-cons P f fs here all
 all_step P false f fs here all = all
 
--- the folders on the way to a path behind a folder are below it
+-- the folders on the way to a path below a folder are below it too
 all_below : (folder front path : List ℕ) → IsBelow folder front → All (IsBelow folder) (folders_from front path)
 all_below folder front [] below = All-nil (IsBelow folder)
 all_below folder front (b ∷ path) below =

@@ -16,7 +16,7 @@ abbrev pub read_search : Option (List ℕ) → Search
 read_search (Some bytes) = found bytes
 read_search None = nothing
 
--- What was read of a path is what is found by results that may be returned.
+-- The file at a path was read, or none was, by results that may be returned.
 pub record IsReadSeen (may_stat : Result Metadata Fault → Type 0) (may_open : MayOpen) (read : Option (List ℕ)) : Type 0 where
   pub node : Result Metadata Fault
   pub node_allowed : may_stat node
@@ -24,24 +24,24 @@ pub record IsReadSeen (may_stat : Result Metadata Fault → Type 0) (may_open : 
   pub opened_allowed : may_open opened
   pub same : node_search node opened ≡ read_search read
 
--- What was read is a content that may be read of a file that is opened, up to its end.
+-- The bytes are a content that may be read of the opened file, up to its end. Without bytes, it can't be read.
 pub record IsOpenSeen (may_open : MayOpen) (read : Option (List ℕ)) : Type 0 where
   pub opened : Result Content Fault
   pub allowed : may_open opened
   pub same : opened_search opened ≡ read_search read
 
--- What the code found.
+-- The search that found this.
 abbrev pub found_search : Found → Search
 found_search (FoundFile bytes) = found bytes.items
 found_search NoFile = nothing
 found_search NoFolder = nothing
 
--- What is found at a path that the link check refuses.
+-- This is found at a path that the link check refuses.
 pub record IsRefusalOf (check : LinkCheck) (it : Found) : Type 0 where
   pub search : (at_path : Search) → checked_search check at_path ≡ found_search it
   pub refused : check ≢ accepted
 
--- What was found at a path is so by results that may be returned. There is no folder only if the link check refuses the path.
+-- This is found at a path by results that may be returned. There is no folder only if the link check refuses the path.
 pub record IsPathSeen (may_stat : MayStat) (may_open : List ℕ → MayOpen) (path : List ℕ) (it : Found) : Type 0 where
   pub lstat : Stats
   pub allowed : AreAllowed may_stat lstat

@@ -17,7 +17,8 @@ use Rattle.git_attributes.specs.Files.{File}
 
 -- ---- the folders that are searched
 
--- The folders on the way to a path, the shortest first: its fronts that end with a slash. The path is behind a front.
+-- The folders on the way to a path, the shortest first: its fronts that end with a slash. The first list is before
+-- the path.
 abbrev pub folders_from : List ℕ → List ℕ → List (List ℕ)
 folders_from front [] = []
 folders_from front (b ∷ path) =
@@ -93,7 +94,7 @@ abbrev pub node_search : Result Metadata Fault → Result Content Fault → Sear
 node_search (Ok node) opened = if is_file node.kind && nat_lt node.len file_limit then opened_search opened else nothing
 node_search (Err f) opened = at_fault f
 
--- Nothing is looked at whose path isn't normal, or leads through a link or a directory with a fault.
+-- Nothing is found if the path isn't normal, or leads through a link or a directory with a fault.
 abbrev pub checked_search : LinkCheck → Search → Search
 checked_search accepted at_path = at_path
 checked_search empty_path at_path = nothing
@@ -101,7 +102,7 @@ checked_search (not_normal component) at_path = nothing
 checked_search (through_link prefix) at_path = nothing
 checked_search (faulty f) at_path = at_fault f
 
--- What is found at a path, by these results.
+-- The search of a path by these results.
 abbrev pub path_search : Stats → Result Content Fault → List ℕ → Search
 path_search lstat opened path = checked_search (link_check lstat path) (node_search (lstat path) opened)
 

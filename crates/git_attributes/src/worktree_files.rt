@@ -56,7 +56,7 @@ impl<W: Worktree> AttributeFiles for WorktreeAttributeFiles<'_, W> {
     }
 }
 
-/// What is at the path of an attribute file.
+/// The node at the path of an attribute file.
 #[derive(Drop)]
 enum Found {
     /// A file, with these bytes.
@@ -110,8 +110,8 @@ impl<W: Worktree> FolderSearch<'_, W> {
         self.add_folders(path, common_front(before, path), check, files)
     }
 
-    /// Adds the files of the folders on the way to a path, from those of more than `from` bytes on. Nothing is looked at below a
-    /// folder that isn't in the worktree.
+    /// Adds the files of the folders on the way to a path, from those of more than `from` bytes on. No folder is searched below
+    /// one that isn't in the worktree.
     fn add_folders(
         &self,
         path: &[u8],
@@ -277,7 +277,7 @@ fn none_unless_memory(fault: Fault) -> Result<Option<Vec<u8>>, AllocError>
     }
 }
 
-/// Returns the position after the next slash of a path, where the path of a folder ends.
+/// Returns the position after the next slash of a path, which is the end of a folder's path.
 fn folder_end(path: &[u8], at: usize) -> Option<usize>
     requires { at ≤ length path.now }
     ensures { IsNextFolder path.now at result }
