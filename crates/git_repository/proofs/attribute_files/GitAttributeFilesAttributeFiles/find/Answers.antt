@@ -1,4 +1,4 @@
-use Rattle.std.proofs.Common.{◌≡◌, Global, List, ◌++◌, Vec, ap, ◌∙◌}
+use Rattle.std.proofs.Common.{Global, List, Vec, ap, ◌∙◌}
 use Rattle.status_index.specs.States.{index_of}
 use Rattle.git_attributes.specs.Files.{File}
 use Rattle.git_attributes.specs.WorktreeFiles.{AreFilesSeen, folders_of}
