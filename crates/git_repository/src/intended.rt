@@ -34,13 +34,22 @@ impl<R: Files + AllocGlobal, W: Worktree> IntendedWorktree<'_, R, W> {
 }
 
 impl<R: Files + AllocGlobal, W: Worktree> Worktree for IntendedWorktree<'_, R, W> {
+    ghost use Rattle.std.proofs.Common.{inl};
+    ghost use Rattle.git_repository.specs.Intended.{MayCountAsOther};
+
     type File = W::File;
 
-    ghost stat_may_fail = { λ _ _. tt };
+    ghost may_stat = { λ tree path. MayCountAsOther (W.may_stat tree.worktree.now path) };
 
-    ghost open_may_fail = { λ _ _. tt };
+    ghost may_open = { λ tree. W.may_open tree.worktree.now };
 
-    ghost link_may_fail = { λ _ _. tt };
+    ghost may_link = { λ tree. W.may_link tree.worktree.now };
+
+    ghost stat_may_fail = { λ tree path. inl (W.stat_may_fail tree.worktree.now path) };
+
+    ghost open_may_fail = { λ tree. W.open_may_fail tree.worktree.now };
+
+    ghost link_may_fail = { λ tree. W.link_may_fail tree.worktree.now };
 
     fn lstat(&self, path: BStr<'_>) -> Result<Metadata, Fault> {
         let mut found = self.worktree.lstat(path)?;

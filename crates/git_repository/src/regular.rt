@@ -11,9 +11,6 @@ use std::{fmt, io};
 /// The most bytes of an index file.
 pub const INDEX_LIMIT: usize = 1 << 30;
 
-/// As git does, an attribute file of so many bytes or more is left out.
-pub const ATTRIBUTES_LIMIT: usize = 100 << 20;
-
 /// The most bytes of a file of packed references.
 pub const PACKED_LIMIT: usize = 128 << 20;
 

@@ -1,0 +1,2 @@
+pub mod AttributeFiles
+pub mod Intended
