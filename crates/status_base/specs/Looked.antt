@@ -1,4 +1,4 @@
--- A path that was looked at. Only then is its file opened, or its link read.
+-- Calls of `lstat` that come before a file is opened or a link is read.
 use Rattle.std.specs.Prelude.{◌≡◌, ℕ, Bool, true, false, List, Ok}
 use Rattle.std.specs.Borrow.{Bor}
 use Rattle.status_index.specs.declared.stat.Metadata.{Metadata}
@@ -8,7 +8,7 @@ use Rattle.status_base.specs.declared.worktree.guarded.GuardedWorktree.{GuardedW
 use Rattle.status_base.specs.Sights.{MayStat, IsOpen}
 
 -- A node was met at a path: by results that `lstat` may return, no directory above the path is a link or has a fault, and the node
--- is one that `lstat` may return for the path. With listings only the directories were looked at.
+-- is one that `lstat` may return for the path. With listings this is known of the directories alone.
 pub record IsMet (may : MayStat) (listed : Bool) (path : List ℕ) (node : Metadata) : Type 0 where
   pub above : IsOpen may path
   pub here : listed ≡ false → may path (Ok node)
@@ -19,7 +19,7 @@ pub record IsMetAs (may : MayStat) (listed : Bool) (path : List ℕ) (kind : Nod
   pub met : IsMet may listed path node
   pub is : node.kind ≡ kind
 
--- A path was looked at, and a node of this kind was met there.
+-- The same, as a fact that has at most one proof.
 abbrev pub IsLookedAt : MayStat → Bool → List ℕ → NodeKind → Type 0
 IsLookedAt may listed path kind = ∥ IsMetAs may listed path kind ∥₁
 
@@ -28,6 +28,6 @@ abbrev pub kind_read : Bool → NodeKind
 kind_read true = Link
 kind_read false = File
 
--- A worktree behind a guard, which is told whether listings may stand in for a look at the path itself.
+-- A worktree with a guard, and whether listings may replace the call of `lstat` on the path itself.
 abbrev pub guarded : {W : Type 0} → Bor W → Bool → GuardedWorktree W
 guarded worktree listed = record { worktree = worktree; fscache = listed }

@@ -83,7 +83,7 @@ module _ (may : MayStat) (listed : Bool) (path : List ℕ) (symlink x : Bool) (m
   looked : IsSameType (mode_change symlink x mode n) → IsLookedAt may listed path (kind_read (reads_link symlink mode n.kind))
   looked same = ∥∥₁_map met (λ m. record { node = n; met = m.met; is = fits symlink x n mode n.kind same m.kind })
 
-  -- A node without a change was looked at as what is read of it.
+  -- A node without a change has the kind that is read.
   pub looked_unchanged : mode_change symlink x mode n ≡ None → IsLookedAt may listed path (kind_read (reads_link symlink mode n.kind))
   looked_unchanged is = looked (subst IsSameType (sym is) tt)
 

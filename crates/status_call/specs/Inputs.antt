@@ -14,8 +14,8 @@ use Rattle.status_call.specs.declared.index_as_worktree.inputs.Settings.{Setting
 use Rattle.status_call.specs.declared.index_as_worktree.types.Context.{Context}
 use Rattle.status_call.specs.declared.index_as_worktree.types.Options.{Options}
 
--- The interfaces that a caller passes. What is specified of them is the same whether listings may stand in for looks, so this is
--- false here.
+-- The interfaces that a caller passes. Their specification is the same whether the guard allows listings or not, so it doesn't
+-- here.
 abbrev pub inputs_of : {W C S O P T L : Type 0} → Bor W → C → S → O → Context P T L
     → Inputs W C S O P T L
 inputs_of worktree compare submodule objects context = record {

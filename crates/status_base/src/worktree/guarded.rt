@@ -1,4 +1,4 @@
-//! A worktree whose files are opened, and whose links are read, only after a look.
+//! A worktree whose files are opened, and whose links are read, only after calls of `lstat`.
 
 ghost use Rattle.std.specs.Prelude.{◌≡◌, IsTrue};
 ghost use Rattle.bstr.specs.BStr.{bstr_bytes};
@@ -18,9 +18,9 @@ use crate::worktree::Worktree;
 use bstr::BStr;
 use status_index::{Fault, Metadata};
 
-/// A worktree whose files are opened, and whose links are read, only after they were looked at. Whoever has a guard can't get at
-/// the worktree behind it. A file can only be opened if `lstat` said that a file is at its path, and that no directory above
-/// the path is a link. Reading a link needs the same of a link.
+/// A worktree whose files are opened, and whose links are read, only after calls of `lstat`. A guard doesn't lend the worktree.
+/// A file can only be opened if `lstat` returned that a file is at its path, and that no directory above the path is a link.
+/// Reading a link needs the same of a link.
 #[derive_where(Clone, Copy)]
 pub struct GuardedWorktree<'w, W> {
     worktree: &'w W,
@@ -28,8 +28,8 @@ pub struct GuardedWorktree<'w, W> {
 }
 
 impl<'w, W: Worktree> GuardedWorktree<'w, W> {
-    /// Puts a guard before a worktree. `fscache` is whether listings of directories may stand in for the look at a path
-    /// itself. The directories above the path are looked at even then.
+    /// Puts a guard before a worktree. `fscache` is whether listings of directories may replace the call of `lstat` on a path
+    /// itself. It is called on the directories above the path even then.
     pub fn new(worktree: &'w W, fscache: bool) -> GuardedWorktree<'w, W>
         ensures { result ≡ guarded worktree.entry fscache }
     {

@@ -67,7 +67,7 @@ where
 {
     ghost use Rattle.status_call.specs.EntryParts.{IsCaseDecided, IsNodeDecided, IsContentDecided, IsLookAt, candidate_entry};
 
-    /// Makes a decider with these settings. They use listings exactly if the worktree's guard was told so.
+    /// Makes a decider with these settings. They use listings exactly if the worktree's guard allows that.
     pub fn new(
         alloc: Global,
         inputs: Inputs<'w, W, C, S, O, P, T, L>,

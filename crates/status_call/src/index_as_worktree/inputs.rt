@@ -48,7 +48,7 @@ impl Settings {
 /// The worktree and the interfaces that a caller passes.
 #[derive(Drop)]
 pub struct Inputs<'w, W, C, S, O, P, T, L> {
-    /// The worktree. Files are opened and links are read only after a look.
+    /// The worktree. Files are opened and links are read only after calls of `lstat`.
     pub worktree: GuardedWorktree<'w, W>,
     /// Compares a file with a blob.
     pub compare: C,
@@ -65,7 +65,7 @@ pub struct Inputs<'w, W, C, S, O, P, T, L> {
 }
 
 impl<'w, W: Worktree, C, S, O, P, T, L> Inputs<'w, W, C, S, O, P, T, L> {
-    /// Returns the inputs that a call gets, with the worktree behind a guard.
+    /// Returns the inputs that a call gets, with a guard before the worktree.
     pub(crate) fn of(
         worktree: &'w W,
         fscache: bool,

@@ -11,7 +11,7 @@ use Rattle.status_call.proofs.ContentViews.{changed_view, failed_view}
 use Rattle.status_call.proofs.EntryCases.{all_specified}
 use Rattle.status_call.proofs.index_as_worktree.content.compare_node.Goals as goal
 
--- The node was looked at as what is read.
+-- A node of the kind that is read was met.
 read : {may : MayStat} {listed : Bool} {path : List ℕ} {is_link links : Bool} → is_link ≡ links → IsLookedAt may listed path (kind_read links) → IsLookedAt may listed path (kind_read is_link)
 read {may} {listed} {path} same looked = subst (λ (b : Bool). IsLookedAt may listed path (kind_read b)) (sym same) looked
 
