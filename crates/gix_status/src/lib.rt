@@ -42,11 +42,11 @@ pub mod walk {
 /// The worktree, the interfaces that a caller passes to a status, and walks and trackers.
 pub mod worktree {
     pub use status_base::worktree::{
-        AllPaths, ByteText, DiskFile, DiskWorktree, Fault, Find, FindError, Lister, Listing,
-        MemoryFile, MemoryObjects, MemoryWorktree, Metadata, NoFilter, NoLister, NoSubmodules,
-        Node, NodeKind, Pathspec, Point, Prefix, ReadBytes, StatFields, SubmoduleFault,
-        SubmoduleStatus, TimeError, ToGit, ToGitOutcome, TreeError, Worktree, disk, filter, lister,
-        memory, objects, pathspec, planted, read_all, submodule, tree,
+        AllPaths, ByteText, DiskFile, DiskWorktree, Fault, Find, FindError, GuardedWorktree,
+        Lister, Listing, MemoryFile, MemoryObjects, MemoryWorktree, Metadata, NoFilter, NoLister,
+        NoSubmodules, Node, NodeKind, Pathspec, Point, Prefix, ReadBytes, StatFields,
+        SubmoduleFault, SubmoduleStatus, TimeError, ToGit, ToGitOutcome, TreeError, Worktree, disk,
+        filter, lister, memory, objects, pathspec, planted, read_all, submodule, tree,
     };
     pub use status_rewrites::{
         Change, ChangeKind, IdentityTracker, Pair, Rewrites, Tracker, TrackerError,

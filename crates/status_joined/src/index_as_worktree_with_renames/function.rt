@@ -14,7 +14,9 @@ use crate::index_as_worktree_with_renames::types::{
 };
 use crate::item::identifier_of;
 use crate::untracked::wanted_walker;
-use status_base::worktree::{Find, Lister, Pathspec, SubmoduleStatus, ToGit, Worktree};
+use status_base::worktree::{
+    Find, GuardedWorktree, Lister, Pathspec, SubmoduleStatus, ToGit, Worktree,
+};
 use status_call::index_as_worktree;
 use status_call::index_as_worktree::decider::Decider;
 use status_call::index_as_worktree::inputs;
@@ -92,8 +94,9 @@ where
         tracker,
     } = context;
     let inputs = Inputs {
+        worktree,
         status: inputs::Inputs {
-            worktree,
+            worktree: GuardedWorktree::new(worktree, options.fscache),
             compare,
             submodule,
             objects,
@@ -127,7 +130,8 @@ fn tracked_options(options: &Options) -> index_as_worktree::Options
     }
 }
 
-/// Does the same as `index_as_worktree_with_renames`, with its interfaces in one value.
+/// Does the same as `index_as_worktree_with_renames`, with its interfaces in one value. The worktree's guard
+/// allows listings exactly if the options do.
 ///
 /// # Errors
 /// Those of that call.
@@ -155,11 +159,12 @@ where
     W::File: Send,
     C::Output: Send + ExactClone + 'index,
     S::Output: Send + ExactClone + 'index,
+    requires guard { inputs.status.worktree.fscache ≡ call.now.options.fscache }
     ensures { IsJoinedReport (⟦<Inputs<'w, W, C, S, O, P, T, L, K, X> as Ask>⟧.query inputs.entry) call.now.options call.now.index.now
         V.fails (V.visits collector.old) result (V.visits collector.new) }
 {
     let options = &call.options;
-    let worktree = inputs.status.worktree;
+    let worktree = inputs.worktree;
     let walk = inputs.walk;
     let Ok(finder) = wanted_walker(options.dirwalk, worktree, walk, &inputs.status.pathspec) else {
         return Err(Error::Memory);

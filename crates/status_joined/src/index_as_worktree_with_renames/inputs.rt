@@ -13,7 +13,9 @@ use std::sync::atomic::AtomicBool;
 /// The worktree and the interfaces that a caller passes.
 #[derive(Drop)]
 pub struct Inputs<'w, W, C, S, O, P, T, L, K, X> {
-    /// Those of the status of the index.
+    /// The worktree, for the nodes that the index doesn't have.
+    pub worktree: &'w W,
+    /// The inputs of the status of the index.
     pub status: inputs::Inputs<'w, W, C, S, O, P, T, L>,
     /// Finds the nodes of the worktree that the index doesn't have.
     pub walk: K,
@@ -56,8 +58,8 @@ impl<
 
     ghost query = { λ i. record {
       status = ⟦<inputs::Inputs<'w, W, C, S, O, P, T, L> as inputs::Ask>⟧.query i.status;
-      walking = ⟦<Walker<'w, W, K, P> as FindUntracked>⟧.walking (walker_of i.status.worktree i.walk i.status.pathspec);
-      identifying = λ kind. identifying W.modelled W.lstat_of W.open_of W.target_of T.conversion kind i.status.worktree.now i.status.filter;
+      walking = ⟦<Walker<'w, W, K, P> as FindUntracked>⟧.walking (walker_of i.worktree i.walk i.status.pathspec);
+      identifying = λ kind. identifying W.modelled W.lstat_of W.open_of W.target_of T.conversion kind i.worktree.now i.status.filter;
       pairs = X.tracks i.tracker;
       interruptible = is_some i.should_interrupt;
     } };

@@ -5,6 +5,7 @@ use crate::support::prelude::*;
 use gix_status::index::stat;
 use gix_status::index_as_worktree::traits::HashEq;
 use gix_status::index_as_worktree::{Capabilities, Error, Record, Recorder};
+use status_base::worktree::GuardedWorktree;
 use status_call::index_as_worktree::considered::Considered;
 use status_call::index_as_worktree::counts::Progress;
 use status_call::index_as_worktree::decider::Decider;
@@ -50,7 +51,7 @@ fn report_rounds<'index, R: Threads + Wait>(
     let alloc = workers.alloc;
     let worktree = MemoryWorktree::new(alloc);
     let inputs = Inputs {
-        worktree: &worktree,
+        worktree: GuardedWorktree::new(&worktree, false),
         compare: HashEq,
         submodule: NoSubmodules,
         objects: MemoryObjects::new(alloc),

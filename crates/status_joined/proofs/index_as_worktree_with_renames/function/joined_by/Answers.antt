@@ -31,3 +31,6 @@ returns g c =
     let ids = c.in-Ok-identifier_of.ensures in
     joined_at _ _ _ _ _ _ _ _ _ decider _ walk _ ids _ _ _
     (unreported _ _ _ _ _ _ _ _ _ _ _ c.in-Ok-list_halves.ensures _ _ _ c.in-Err-report_list.ensures)
+
+pub new-decider-requires : goal.new-decider-requires
+new-decider-requires g c = record { guard = rw (c.of-settings.ensures, c.tracked_options.ensures) c.requires.guard }
