@@ -60,9 +60,9 @@ impl<'a, 'b, 'files, 'index, W: Worktree, S: SubmoduleStatus> Explainer<
         path: BStr<'index>,
     ) -> Result<Explained<'index>, AllocError>
         ensures status { IfOk result (IsStatusBySight (settings self.old.options self.old.index.now) self.old.filter self.old.index.now) }
-        ensures allowed { IfOk result (λ x. let p = bstr_bytes path in IsSightAllowed (W.may_stat self.old.worktree.now) (W.may_open self.old.worktree.now p)
+        ensures allowed { IfOk result (λ x. let p = bstr_bytes path.entry in IsSightAllowed (W.may_stat self.old.worktree.now) (W.may_open self.old.worktree.now p)
             (W.may_link self.old.worktree.now p) (S.may_report self.old.submodules (entry_at p entry.now)) x.sight) }
-        ensures entry { IfOk result (λ x. (x.entry.now ≡ entry.now) × (bstr_bytes x.path ≡ bstr_bytes path)) }
+        ensures entry { IfOk result (λ x. (x.entry.now ≡ entry.now) × (bstr_bytes x.path ≡ bstr_bytes path.entry)) }
         ensures only { self.new ≡ record self.old { submodules = self.new.submodules } }
         ensures within { (e : IndexEntry) (report : Result (Option S.Output) (List ℕ)) → S.may_report self.new.submodules e report → S.may_report self.old.submodules e report }
     {
@@ -91,8 +91,8 @@ impl<'a, 'b, 'files, 'index, W: Worktree, S: SubmoduleStatus> Explainer<
         path: BStr<'index>,
         mut sight: Sight,
     ) -> Result<Sight, AllocError>
-        ensures allowed { let p = bstr_bytes path in let may = IsSightAllowed (W.may_stat self.old.worktree.now) (W.may_open self.old.worktree.now p)
-            (W.may_link self.old.worktree.now p) (S.may_report self.old.submodules (entry_at p entry.now)) in may sight.entry → IfOk result may }
+        ensures allowed { let p = bstr_bytes path.entry in let may = IsSightAllowed (W.may_stat self.old.worktree.now) (W.may_open self.old.worktree.now p)
+            (W.may_link self.old.worktree.now p) (S.may_report self.old.submodules (entry_at p entry.now)) in may sight → IfOk result may }
         ensures only { self.new ≡ record self.old { submodules = self.new.submodules } }
         ensures within { (e : IndexEntry) (report : Result (Option S.Output) (List ℕ)) → S.may_report self.new.submodules e report → S.may_report self.old.submodules e report }
     {
@@ -113,7 +113,7 @@ impl<'a, 'b, 'files, 'index, W: Worktree, S: SubmoduleStatus> Explainer<
     /// # Errors
     /// Out of memory.
     fn read(&self, path: BStr<'_>, mut sight: Sight) -> Result<Sight, AllocError>
-        ensures { IfOk result (IsReadFurther (W.may_open self.now.worktree.now (bstr_bytes path.entry)) (W.may_link self.now.worktree.now (bstr_bytes path.entry)) sight.entry) }
+        ensures { IfOk result (IsReadFurther (W.may_open self.now.worktree.now (bstr_bytes path.entry)) (W.may_link self.now.worktree.now (bstr_bytes path.entry)) sight) }
     {
         if has_link(&sight, path) {
             let target = read_link(self.alloc, self.worktree, path)?;
@@ -136,8 +136,8 @@ impl<'a, 'b, 'files, 'index, W: Worktree, S: SubmoduleStatus> Explainer<
         sight: Sight,
     ) -> Result<Explained<'index>, AllocError>
         ensures status { IfOk result (IsStatusBySight (settings self.now.options self.now.index.now) self.now.filter self.now.index.now) }
-        ensures sight { IfOk result (λ x. x.sight ≡ sight.entry) }
-        ensures entry { IfOk result (λ x. (x.entry.now ≡ entry.now) × (bstr_bytes x.path ≡ bstr_bytes path)) }
+        ensures sight { IfOk result (λ x. x.sight ≡ sight) }
+        ensures entry { IfOk result (λ x. (x.entry.now ≡ entry.now) × (bstr_bytes x.path ≡ bstr_bytes path.entry)) }
     {
         let mut recorder = Recorder::new(self.alloc);
         let answer = self.status_by(path, &sight, &mut recorder)?;

@@ -129,7 +129,7 @@ impl Explanations {
         wanted: Wanted<'_>,
     ) -> Result<(), AllocError>
         ensures adds { let x = explainer.old in OnOk result (Adds (W.may_stat x.worktree.now) (W.may_open x.worktree.now) (W.may_link x.worktree.now) (S.may_report x.submodules)
-            (settings x.options x.index.now) x.filter x.index.now (if selected then entry_at (bstr_bytes path) entry.now ∷ [] else []) self.old self.new) }
+            (settings x.options x.index.now) x.filter x.index.now (if selected then entry_at (bstr_bytes path.entry) entry.now ∷ [] else []) self.old self.new) }
         ensures only { explainer.new ≡ record explainer.old { submodules = explainer.new.submodules } }
         ensures within { (e : IndexEntry) (report : Result (Option S.Output) (List ℕ)) → S.may_report explainer.new.submodules e report → S.may_report explainer.old.submodules e report }
     {

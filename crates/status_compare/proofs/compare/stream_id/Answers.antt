@@ -41,7 +41,7 @@ returns-in_err-read_rest-clause-seen g c = λ new.
     let given = c.in_err-read_rest.ensures.seen in
     let content : Content = record { bytes = given.0; fault = Some c.in_err-read_rest.field-0.0 } in
     rw (p.1, p.2) (unsized g.F.ReadBytes.may_give c.args.kind s.source s.size s.counts s.counted c.read_rest.new.self content (Err (error_of c.in_err-read_rest.field-0.0))
-    (sym c.size.ensures ∙ c.in_default.is) found new (subst (λ (o : ToGitOutcome g.row.F.Denot). outcome_gives g.F.ReadBytes.may_give o content) c.as_bytes.ensures.same_source given.1) refl (tt {0}))
+    (sym c.size.ensures ∙ c.in_default.is) found new (subst (λ (o : ToGitOutcome g.row.F.Denot). outcome_gives g.F.ReadBytes.may_give o content) c.as_bytes.ensures.same_source given.2) refl (tt {0}))
 
 pub returns-clause-seen : goal.returns-clause-seen
 returns-clause-seen g c = λ new.
