@@ -1,0 +1,3 @@
+mod Adding
+mod FirstEntries
+mod SightLemmas

@@ -7,7 +7,7 @@ use crate::recorded::RecordedFile;
 use crate::sight::{Sight, UNASKED};
 use bstr::BStr;
 use git_attributes::LineEnds;
-use git_status::lines::letters;
+use git_status::has_difference;
 use status_base::worktree::{Fault, ToGit, ToGitOutcome};
 use status_call::index_as_worktree::{EntryStatus, Error, Outcome, Recorder};
 use status_index::{Entry, ObjectId, Stat, compute_hash};
@@ -58,12 +58,7 @@ impl<'index> Explained<'index> {
     pub(crate) fn has_line(&self) -> bool
         ensures { result ≡ has_line self.now }
     {
-        for record in &self.recorder.records {
-            if letters(&record.status).is_some() {
-                return true;
-            }
-        }
-        false
+        has_difference(&self.recorder.records)
     }
 
     /// Returns whether the status failed.

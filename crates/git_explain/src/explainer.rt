@@ -151,6 +151,18 @@ impl<'a, 'b, 'files, 'index, W: Worktree, S: SubmoduleStatus> Explainer<
         })
     }
 
+    /// Returns the conversion of line ends.
+    fn filter(&self) -> LineEnds<'b, 'files, 'index>
+        ensures { result ≡ self.now.filter }
+    {
+        LineEnds {
+            attributes: self.filter.attributes,
+            auto: self.filter.auto,
+            index: self.filter.index,
+            kind: self.filter.kind,
+        }
+    }
+
     /// Computes the status of the entries of one path by its sight.
     ///
     /// # Errors
@@ -168,13 +180,16 @@ impl<'a, 'b, 'files, 'index, W: Worktree, S: SubmoduleStatus> Explainer<
             pathspec: OnlyPath {
                 path: path.as_bytes(),
             },
-            filter: self.filter.clone()?,
+            filter: self.filter(),
             lister: NoLister,
             should_interrupt: None,
         };
         let options = Options {
+            fs: self.options.fs,
+            thread_limit: Some(1),
+            stat: self.options.stat,
             fscache: false,
-            ..self.options.clone()?
+            chunk_size: 0,
         };
         let answer = index_as_worktree_without_threads(
             self.alloc,

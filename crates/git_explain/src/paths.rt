@@ -1,9 +1,11 @@
 //! The explanations of an index's paths, one after the other.
 
-ghost use Rattle.std.specs.Prelude.{◌≡◌, ◌||◌, ◌∷◌, [], List, ℕ, Option, Result, OnOk, IfOk, is_err, if◌then◌else◌};
+ghost use Rattle.std.specs.Prelude.{◌≡◌, ◌||◌, ◌&&◌, ◌∷◌, [], not, List, ℕ, Option, Result, OnOk, IfOk, is_err, if◌then◌else◌};
+ghost use Rattle.std.specs.Str.{bytes_eq};
 ghost use Rattle.bstr.specs.BStr.{bstr_bytes};
 ghost use Rattle.status_call.specs.Inputs.{settings};
 ghost use Rattle.status_index.specs.Entries.{IndexEntry, entry_at};
+ghost use Rattle.status_index.specs.Mode.{is_submodule};
 ghost use Rattle.status_index.specs.States.{index_of};
 ghost use Rattle.git_explain.specs.Explained.{AreExplained, first_entries, has_line};
 ghost use Rattle.git_explain.specs.Added.{Adds};
@@ -84,7 +86,7 @@ pub(crate) fn explain_each<'a, W: Worktree, S: SubmoduleStatus, P: Pathspec, A: 
         failed: false,
     };
     found.add_entries(&mut explainer, &paths, wanted)?;
-    found.add_others(alloc, wanted)?;
+    push_others(alloc, &mut found.text, wanted)?;
     Ok(found)
 }
 
@@ -107,8 +109,7 @@ impl Explanations {
         let mut before: &[u8] = b"";
         'entries: while let [entry, after @ ..] = rest {
             let path = entry.path_in(index.path_backing());
-            let selected = path.as_bytes() != before
-                && paths.includes(path, entry.mode.is_submodule());
+            let selected = is_selected(paths, entry, path, before);
             self.add_if(selected, explainer, entry, path, wanted)?;
             before = path.as_bytes();
             rest = after;
@@ -170,29 +171,34 @@ impl Explanations {
             push_text(alloc, &mut self.text, explained, compared)
         }
     }
+}
 
-    /// Adds the selected paths that aren't compared: those of entries that are left out, and those that have no entry.
-    ///
-    /// # Errors
-    /// Out of memory.
-    fn add_others(&mut self, alloc: Global, wanted: Wanted<'_>) -> Result<(), AllocError>
-        ensures { OnOk result ((self.new.differs ≡ self.old.differs) × (self.new.failed ≡ self.old.failed)) }
-    {
-        if wanted.all {
-            push_left_out(alloc, &mut self.text, wanted)?;
-        }
-        for path in wanted.untracked {
-            push_not_compared(
-                alloc,
-                &mut self.text,
-                wanted.json,
-                path.as_bytes(),
-                "not in the index",
-                "only paths of the index are compared",
-            )?;
-        }
-        Ok(())
+/// Returns whether an entry's path is included, and isn't the path before it.
+fn is_selected<P: Pathspec>(paths: &P, entry: &Entry, path: BStr<'_>, before: &[u8]) -> bool
+    ensures { let p = bstr_bytes path.entry in result ≡ (not (bytes_eq p before.now) && P.included paths.now p (is_submodule entry.now.mode)) }
+{
+    path.as_bytes() != before && paths.includes(path, entry.mode.is_submodule())
+}
+
+/// Appends the selected paths that aren't compared: those of entries that are left out, and those that have no entry.
+///
+/// # Errors
+/// Out of memory.
+fn push_others(alloc: Global, text: &mut Vec<u8>, wanted: Wanted<'_>) -> Result<(), AllocError> {
+    if wanted.all {
+        push_left_out(alloc, text, wanted)?;
     }
+    for path in wanted.untracked {
+        push_not_compared(
+            alloc,
+            text,
+            wanted.json,
+            path.as_bytes(),
+            "not in the index",
+            "only paths of the index are compared",
+        )?;
+    }
+    Ok(())
 }
 
 /// Appends the paths of the entries that are left out.

@@ -1,6 +1,6 @@
 //! The command that explains paths.
 
-ghost use Rattle.std.specs.Prelude.{◌≡◌, ◌≢◌, ◌⊎◌, ◌==◌, false};
+ghost use Rattle.std.specs.Prelude.{◌≡◌, ◌≢◌, ◌⊎◌, ◌==◌, false, if◌then◌else◌};
 ghost use Rattle.git_explain.specs.Explained.{AreExplained};
 
 use crate::paths::{Wanted, explain_each};
@@ -39,8 +39,15 @@ pub fn run_explain<
     if let Err(error) = print_all(&found.text, output) {
         return print_failure(alloc, error, faults);
     }
-    if found.failed {
+    exit_status(found.failed, found.differs)
+}
+
+/// Returns the exit status, by whether the status of a path failed, and whether one differs.
+fn exit_status(failed: bool, differs: bool) -> u8
+    ensures { result ≡ (if failed then 2 else (if differs then 1 else 0)) }
+{
+    if failed {
         return 2;
     }
-    u8::from(found.differs)
+    u8::from(differs)
 }

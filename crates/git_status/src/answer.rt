@@ -106,7 +106,7 @@ fn lines_of<T: Drop, U: Drop>(
 }
 
 /// Returns whether one of these records is of an entry that differs from the worktree.
-fn has_difference<T: Drop, U: Drop>(records: &[Record<'_, T, U>]) -> bool
+pub fn has_difference<T: Drop, U: Drop>(records: &[Record<'_, T, U>]) -> bool
     ensures { result ≡ list_any is_difference (map visit_of records.now) }
 {
     for record in records {

@@ -26,7 +26,7 @@ mod remarks;
 mod status;
 mod watcher;
 
-pub use answer::Report;
+pub use answer::{Report, has_difference};
 pub use asked::{Asked, Question, Settings};
 pub use dirty::{print_file, run_dirty};
 pub use failure::Failure;

@@ -1,0 +1,136 @@
+-- Explanations of more paths, one after the other.
+use Rattle.std.proofs.Common.{◌≡◌, ◌≢◌, ◌==◌, ◌∙◌, ◌++◌, if◌then◌else◌, ◌||◌, ℕ, Bool, true, false, List, [], ◌∷◌, map, Option, Some, None, Result, Ok, Err, refl, sym, ap, subst}
+use Rattle.std.specs.List.{list_any}
+use Rattle.std.specs.Prelude.{All, IfSome, OnOk, is_err}
+use Rattle.std.proofs.Math.Bool.{or-false, or_assoc}
+use Rattle.std.proofs.lemmas.List.{append_assoc, map-append}
+use Rattle.std.proofs.lemmas.List.Elements.{All-append, All-cons, All-nil, All-weaker}
+use Rattle.std.proofs.lemmas.List.Folds.{list_any-append}
+use Rattle.bstr.specs.BStr.{bstr_bytes}
+use Rattle.git_attributes.specs.declared.line_ends.LineEnds.{LineEnds}
+use Rattle.git_status.specs.Runs.{Asking, Converting}
+use Rattle.status_base.specs.Openings.{MayOpen}
+use Rattle.status_base.specs.Sights.{MayStat}
+use Rattle.status_call.specs.Inputs.{settings}
+use Rattle.status_call.specs.declared.index_as_worktree.inputs.Settings.{Settings}
+use Rattle.status_index.specs.Entries.{IndexEntry, entry_at}
+use Rattle.status_index.specs.States.{index_of}
+use Rattle.status_index.specs.declared.entry.Entry.{Entry}
+use Rattle.status_index.specs.declared.fault.Fault.{Fault}
+use Rattle.status_index.specs.declared.state.State.{State}
+use Rattle.git_explain.specs.Added.{Adds}
+use Rattle.git_explain.specs.Allowed.{IsSightAllowed, IsSubmoduleAllowed}
+use Rattle.git_explain.specs.Explained.{AreExplained, IsExplained, IsStatusBySight, entry_of, first_entries, has_line}
+use Rattle.git_explain.specs.declared.explained.Explained.{Explained}
+use Rattle.git_explain.specs.declared.paths.Explanations.{Explanations}
+
+-- The entry whose path is explained.
+pub entry_is : (x : Explained) (path : List ℕ) (e : Entry) → x.entry.now ≡ e → bstr_bytes x.path ≡ path → entry_of x ≡ entry_at path e
+entry_is x path e same at = λ i. entry_at (at i) (same i)
+
+-- What is noted of more values.
+noted : {X : Type 0} (p : X → Bool) (xs ys : List X) (old mid new : Bool) → mid ≡ (old || list_any p xs) → new ≡ (mid || list_any p ys) → new ≡ (old || list_any p (xs ++ ys))
+noted p xs ys old mid new first second =
+    second ∙ ap (λ (b : Bool). b || list_any p ys) first ∙ or_assoc old (list_any p xs) (list_any p ys) ∙ ap (λ (b : Bool). old || b) (sym (list_any-append p xs ys))
+
+module _ {U : Type 0} (may_stat : MayStat) (may_open : List ℕ → MayOpen) (may_link : List ℕ → Result (List ℕ) Fault → Type 0)
+    (may_report : IndexEntry → Result (Option U) (List ℕ) → Type 0) (settings : Settings) (filter : LineEnds) (index : State) where
+  -- No path is explained.
+  pub adds_none : (x : Explanations) → Adds may_stat may_open may_link may_report settings filter index [] x x
+  adds_none x = record { found = []; all = refl; each = All-nil (IsExplained may_stat may_open may_link may_report settings filter index); lines = sym (or-false x.differs); faults = sym (or-false x.failed) }
+
+  -- One path is explained.
+  pub adds_one : (x : Explained) (e : IndexEntry) (old new : Explanations) → entry_of x ≡ e → IsStatusBySight settings filter index x
+      → IsSightAllowed may_stat (may_open e.path) (may_link e.path) (may_report e) x.sight
+      → new.differs ≡ (old.differs || has_line x) → new.failed ≡ (old.failed || is_err x.answer)
+      → Adds may_stat may_open may_link may_report settings filter index (e ∷ []) old new
+  adds_one x e old new is status allowed lines faults = record {
+    found = x ∷ [];
+    all = ap (λ (v : IndexEntry). v ∷ []) is;
+    each = All-cons (IsExplained may_stat may_open may_link may_report settings filter index) x [] (record {
+      status = status;
+      allowed = subst (λ (v : IndexEntry). IsSightAllowed may_stat (may_open v.path) (may_link v.path) (may_report v) x.sight) (sym is) allowed;
+    }) (All-nil (IsExplained may_stat may_open may_link may_report settings filter index));
+    lines = lines ∙ ap (λ (b : Bool). old.differs || b) (sym (or-false (has_line x)));
+    faults = faults ∙ ap (λ (b : Bool). old.failed || b) (sym (or-false (is_err x.answer)));
+  }
+
+  -- The same, unless memory ran out.
+  pub adds_one_on_ok : {A E : Type 0} (r : Result A E) (x : Explained) (e : IndexEntry) (old new : Explanations) → entry_of x ≡ e → IsStatusBySight settings filter index x
+      → IsSightAllowed may_stat (may_open e.path) (may_link e.path) (may_report e) x.sight
+      → OnOk r (new.differs ≡ (old.differs || has_line x)) → OnOk r (new.failed ≡ (old.failed || is_err x.answer))
+      → OnOk r (Adds may_stat may_open may_link may_report settings filter index (e ∷ []) old new)
+  adds_one_on_ok (Ok v) x e old new is status allowed lines faults = adds_one x e old new is status allowed lines faults
+  adds_one_on_ok (Err v) x e old new is status allowed lines faults = tt
+
+  -- More paths are explained.
+  pub adds_more : (es others : List IndexEntry) (old mid new : Explanations) → Adds may_stat may_open may_link may_report settings filter index es old mid
+      → Adds may_stat may_open may_link may_report settings filter index others mid new
+      → Adds may_stat may_open may_link may_report settings filter index (es ++ others) old new
+  adds_more es others old mid new a b = record {
+    found = a.found ++ b.found;
+    all = map-append entry_of a.found b.found ∙ ap (λ (v : List IndexEntry). v ++ map entry_of b.found) a.all ∙ ap (λ (v : List IndexEntry). es ++ v) b.all;
+    each = All-append (IsExplained may_stat may_open may_link may_report settings filter index) a.found b.found a.each b.each;
+    lines = noted has_line a.found b.found old.differs mid.differs new.differs a.lines b.lines;
+    faults = noted (λ (x : Explained). is_err x.answer) a.found b.found old.failed mid.failed new.failed a.faults b.faults;
+  }
+
+  -- Some paths are explained after those that were, and the next ones are left.
+  pub continued : (all done some here next : List IndexEntry) (old mid new : Explanations) → done ++ here ≡ all → here ≡ some ++ next
+      → Adds may_stat may_open may_link may_report settings filter index done old mid → Adds may_stat may_open may_link may_report settings filter index some mid new
+      → (others : List IndexEntry) × (others ++ next ≡ all) × Adds may_stat may_open may_link may_report settings filter index others old new
+  continued all done some here next old mid new was splits before after = (
+    done ++ some,
+    append_assoc done some next ∙ ap (λ (v : List IndexEntry). done ++ v) (sym splits) ∙ was,
+    adds_more done some old mid new before after,
+  )
+
+-- What a submodule may report by the one relation, it may by the other.
+report_within : {U : Type 0} (less more : Result (Option U) (List ℕ) → Type 0) → ((r : Result (Option U) (List ℕ)) → less r → more r) → (s : Option (Result Bool (List ℕ)))
+    → IfSome s (IsSubmoduleAllowed less) → IfSome s (IsSubmoduleAllowed more)
+report_within less more within None h = tt
+report_within less more within (Some (Ok true)) h = (h.0, within (Ok (Some h.0)) h.1)
+report_within less more within (Some (Ok false)) h = within (Ok None) h
+report_within less more within (Some (Err text)) h = within (Err text) h
+
+-- The same for explanations of paths.
+pub adds_within : {U : Type 0} (may_stat : MayStat) (may_open : List ℕ → MayOpen) (may_link : List ℕ → Result (List ℕ) Fault → Type 0)
+    (less more : IndexEntry → Result (Option U) (List ℕ) → Type 0) (settings : Settings) (filter : LineEnds) (index : State) (es : List IndexEntry) (old new : Explanations)
+    → ((e : IndexEntry) (r : Result (Option U) (List ℕ)) → less e r → more e r)
+    → Adds may_stat may_open may_link less settings filter index es old new → Adds may_stat may_open may_link more settings filter index es old new
+adds_within may_stat may_open may_link less more settings filter index es old new within a = record {
+  found = a.found;
+  all = a.all;
+  each = All-weaker (IsExplained may_stat may_open may_link less settings filter index) (IsExplained may_stat may_open may_link more settings filter index)
+      (λ x h. record {
+        status = h.status;
+        allowed = record {
+          calls = h.allowed.calls;
+          file = h.allowed.file;
+          link = h.allowed.link;
+          submodule = report_within (less (entry_of x)) (more (entry_of x)) (within (entry_of x)) x.sight.submodule h.allowed.submodule;
+        };
+      }) a.found a.each;
+  lines = a.lines;
+  faults = a.faults;
+}
+
+-- All selected paths are explained, after none was.
+pub all_explained : {T U : Type 0} (a : Asking T U) (included : List ℕ → Bool → Bool) (index : State) (c : Converting a index) (none all : Explanations) → none.differs ≡ false → none.failed ≡ false
+    → Adds a.may_return.stat a.may_return.opened a.may_return.linked a.may_return.reported (settings a.settings.options index) c.filter index (first_entries included [] (index_of index)) none all
+    → AreExplained a included index all.differs all.failed
+all_explained a included index c none all unchanged unfailed h = record {
+  converting = c;
+  found = h.found;
+  all = h.all;
+  each = h.each;
+  lines = h.lines ∙ ap (λ (b : Bool). b || list_any has_line h.found) unchanged;
+  faults = h.faults ∙ ap (λ (b : Bool). b || list_any (λ (x : Explained). is_err x.answer) h.found) unfailed;
+}
+
+-- The exit status is 1 exactly if a path differs, and 2 if the status of one failed.
+pub exit_explained : {T U : Type 0} (a : Asking T U) (included : List ℕ → Bool → Bool) (index : State) (differs failed : Bool) (n : ℕ) → n ≡ (if failed then 2 else (if differs then 1 else 0))
+    → AreExplained a included index differs failed → n ≢ 2 → AreExplained a included index (n == 1) false
+exit_explained a included index differs true n is h other = absurd (other is)
+exit_explained a included index true false n is h other = subst (λ (b : Bool). AreExplained a included index b false) (sym (ap (λ (m : ℕ). m == 1) is)) h
+exit_explained a included index false false n is h other = subst (λ (b : Bool). AreExplained a included index b false) (sym (ap (λ (m : ℕ). m == 1) is)) h

@@ -1,0 +1,19 @@
+use Rattle.std.proofs.Common.{List, ap, map, refl, ◌∙◌}
+use Rattle.git_attributes.specs.Files.{attributes_of}
+use Rattle.git_attributes.specs.Views.{file_view}
+use Rattle.git_attributes.specs.declared.files.AttributeFile.{AttributeFile}
+use Rattle.git_explain.proofs.Adding.{all_explained}
+use Rattle.git_explain.proofs.paths.explain_each.Goals as goal
+
+pub returns : goal.returns
+returns g c =
+    let read = c.in_ok-attributes.ensures ∙ ap (λ (v : List AttributeFile). attributes_of (map file_view v)) c.deref.ensures.value in
+    all_explained _ _ c.args.index.now (record {
+      files = map file_view c.in_ok-files.files.items;
+      found = c.in_ok-files.ensures;
+      filter = _;
+      attributes = read;
+      auto = refl;
+      entries = refl;
+      kind = refl;
+    }) _ _ refl refl c.in_ok-add_entries.ensures
