@@ -28,7 +28,7 @@ use Rattle.git_explain.specs.declared.paths.Explanations.{Explanations}
 pub entry_is : (x : Explained) (path : List ℕ) (e : Entry) → x.entry.now ≡ e → bstr_bytes x.path ≡ path → entry_of x ≡ entry_at path e
 entry_is x path e same at = λ i. entry_at (at i) (same i)
 
--- What is noted of more values.
+-- A test of more values, noted one list after the other.
 noted : {X : Type 0} (p : X → Bool) (xs ys : List X) (old mid new : Bool) → mid ≡ (old || list_any p xs) → new ≡ (mid || list_any p ys) → new ≡ (old || list_any p (xs ++ ys))
 noted p xs ys old mid new first second =
     second ∙ ap (λ (b : Bool). b || list_any p ys) first ∙ or_assoc old (list_any p xs) (list_any p ys) ∙ ap (λ (b : Bool). old || b) (sym (list_any-append p xs ys))
@@ -85,7 +85,7 @@ module _ {U : Type 0} (may_stat : MayStat) (may_open : List ℕ → MayOpen) (ma
     adds_more done some old mid new before after,
   )
 
--- What a submodule may report by the one relation, it may by the other.
+-- A submodule may report by the other relation all that it may by the one.
 report_within : {U : Type 0} (less more : Result (Option U) (List ℕ) → Type 0) → ((r : Result (Option U) (List ℕ)) → less r → more r) → (s : Option (Result Bool (List ℕ)))
     → IfSome s (IsSubmoduleAllowed less) → IfSome s (IsSubmoduleAllowed more)
 report_within less more within None h = tt
