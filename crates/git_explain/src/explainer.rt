@@ -2,12 +2,7 @@
 
 ghost use Rattle.std.specs.Prelude.{◌≡◌, ℕ, List, Option, Result, IfOk};
 ghost use Rattle.bstr.specs.BStr.{bstr_bytes};
-ghost use Rattle.status_call.specs.Inputs.{settings};
-ghost use Rattle.status_call.specs.RecorderVisits.{visits_of};
-ghost use Rattle.status_call.specs.StatusTheorem.{IsStatusReport};
 ghost use Rattle.status_index.specs.Entries.{IndexEntry, entry_at};
-ghost use Rattle.git_explain.specs.Allowed.{IsReadFurther, IsSightAllowed};
-ghost use Rattle.git_explain.specs.Explained.{IsStatusBySight, by_sight, entry_of};
 
 use crate::asking::{ask_along, ask_submodule, read_file, read_link};
 use crate::explained::Explained;

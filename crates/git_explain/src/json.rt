@@ -107,6 +107,7 @@ fn asked_value(alloc: Global, path: &[u8], sight: &Sight) -> Result<Value, Alloc
     Ok(Value::Array(list))
 }
 
+/// Returns the value of a call of `lstat`.
 fn call_value(alloc: Global, call: &LstatCall) -> Result<Value, AllocError> {
     let path = path_value(alloc, &call.path)?;
     match call.found {
@@ -115,46 +116,51 @@ fn call_value(alloc: Global, call: &LstatCall) -> Result<Value, AllocError> {
     }
 }
 
+/// Returns the value of a file that was opened and read, up to its end or to a fault.
 fn file_value(
     alloc: Global,
     path: &[u8],
     read: &Result<Reading, Fault>,
 ) -> Result<Value, AllocError> {
     let path = path_value(alloc, path)?;
-    match read {
-        Ok(reading) => {
-            let fault = match reading.fault {
-                Some(fault) => fault_value(alloc, fault)?,
-                None => Value::Null,
-            };
-            json!(in alloc; { "read": path, "bytes": reading.bytes.len() as u64, "fault": fault })
-        }
-        Err(fault) => json!(in alloc; { "open": path, "fault": fault_value(alloc, *fault)? }),
-    }
+    let reading = match read {
+        Ok(reading) => reading,
+        Err(fault) =>
+            return json!(in alloc; { "open": path, "fault": fault_value(alloc, *fault)? }),
+    };
+    let fault = match reading.fault {
+        Some(fault) => fault_value(alloc, fault)?,
+        None => Value::Null,
+    };
+    json!(in alloc; { "read": path, "bytes": reading.bytes.len() as u64, "fault": fault })
 }
 
+/// Returns the value of a link that was read.
 fn link_value(
     alloc: Global,
     path: &[u8],
     read: &Result<Vec<u8>, Fault>,
 ) -> Result<Value, AllocError> {
-    let path = path_value(alloc, path)?;
+    let link = path_value(alloc, path)?;
     match read {
-        Ok(target) => json!(in alloc; { "readlink": path, "target": path_value(alloc, target)? }),
-        Err(fault) => json!(in alloc; { "readlink": path, "fault": fault_value(alloc, *fault)? }),
+        Ok(target) => json!(in alloc; { "readlink": link, "target": path_value(alloc, target)? }),
+        Err(fault) => json!(in alloc; { "readlink": link, "fault": fault_value(alloc, *fault)? }),
     }
 }
 
+/// Returns the value of a submodule's report.
 fn submodule_value(
     alloc: Global,
     path: &[u8],
     said: &Result<bool, ByteText>,
 ) -> Result<Value, AllocError> {
-    let path = path_value(alloc, path)?;
+    let place = path_value(alloc, path)?;
     match said {
-        Ok(changed) => json!(in alloc; { "submodule": path, "changed": *changed }),
-        Err(words) =>
-            json!(in alloc; { "submodule": path, "fault": path_value(alloc, words.as_bytes())? }),
+        Ok(changed) => json!(in alloc; { "submodule": place, "changed": *changed }),
+        Err(words) => {
+            let fault = path_value(alloc, words.as_bytes())?;
+            json!(in alloc; { "submodule": place, "fault": fault })
+        }
     }
 }
 
@@ -163,6 +169,7 @@ fn fault_value(alloc: Global, fault: Fault) -> Result<Value, AllocError> {
     shown(format!(in alloc; "{fault}"))
 }
 
+/// Returns the value of a node's metadata.
 fn node_value(alloc: Global, node: &Metadata) -> Result<Value, AllocError> {
     let kind = match node.kind {
         NodeKind::File => "file",

@@ -3,12 +3,8 @@
 ghost use Rattle.std.specs.Prelude.{◌≡◌, ◌||◌, ◌&&◌, ◌∷◌, [], not, List, ℕ, Option, Result, OnOk, IfOk, is_err, if◌then◌else◌};
 ghost use Rattle.std.specs.Str.{bytes_eq};
 ghost use Rattle.bstr.specs.BStr.{bstr_bytes};
-ghost use Rattle.status_call.specs.Inputs.{settings};
-ghost use Rattle.status_index.specs.Entries.{IndexEntry, entry_at};
 ghost use Rattle.status_index.specs.Mode.{is_submodule};
-ghost use Rattle.status_index.specs.States.{index_of};
-ghost use Rattle.git_explain.specs.Explained.{AreExplained, first_entries, has_line};
-ghost use Rattle.git_explain.specs.Added.{Adds};
+ghost use Rattle.git_explain.specs.Explained.{AreExplained};
 
 use crate::explained::Explained;
 use crate::explainer::Explainer;
@@ -91,6 +87,12 @@ pub(crate) fn explain_each<'a, W: Worktree, S: SubmoduleStatus, P: Pathspec, A: 
 }
 
 impl Explanations {
+    ghost use Rattle.status_call.specs.Inputs.{settings};
+    ghost use Rattle.status_index.specs.Entries.{IndexEntry, entry_at};
+    ghost use Rattle.status_index.specs.States.{index_of};
+    ghost use Rattle.git_explain.specs.Added.{Adds};
+    ghost use Rattle.git_explain.specs.Explained.{first_entries, has_line};
+
     /// Adds the explanations of the selected paths of an index.
     ///
     /// # Errors
