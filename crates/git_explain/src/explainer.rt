@@ -44,6 +44,12 @@ impl<'a, 'b, 'files, 'index, W: Worktree, S: SubmoduleStatus> Explainer<
     W,
     S,
 > {
+    ghost use Rattle.status_call.specs.Inputs.{settings};
+    ghost use Rattle.status_call.specs.RecorderVisits.{visits_of};
+    ghost use Rattle.status_call.specs.StatusTheorem.{IsStatusReport};
+    ghost use Rattle.git_explain.specs.Allowed.{IsReadFurther, IsSightAllowed};
+    ghost use Rattle.git_explain.specs.Explained.{IsStatusBySight, by_sight};
+
     /// Explains the status of an entry's path. At first no call is made. If that doesn't decide, the directories above the path
     /// and the path are checked by `lstat`. If that doesn't either, the content is read.
     ///
