@@ -20,7 +20,7 @@ use Rattle.status_index.specs.declared.fault.Fault.{Fault}
 use Rattle.status_index.specs.declared.state.State.{State}
 use Rattle.git_explain.specs.Added.{Adds}
 use Rattle.git_explain.specs.Allowed.{IsSightAllowed, IsSubmoduleAllowed}
-use Rattle.git_explain.specs.Explained.{AreExplained, IsExplained, IsStatusBySight, entry_of, first_entries, has_line}
+use Rattle.git_explain.specs.Explained.{AreExplained, IsExplained, IsStatusBySight, IsWhole, entry_of, first_entries, has_line}
 use Rattle.git_explain.specs.declared.explained.Explained.{Explained}
 use Rattle.git_explain.specs.declared.paths.Explanations.{Explanations}
 
@@ -40,15 +40,16 @@ module _ {U : Type 0} (may_stat : MayStat) (may_open : List ℕ → MayOpen) (ma
   adds_none x = record { found = []; all = refl; each = All-nil (IsExplained may_stat may_open may_link may_report settings filter index); lines = sym (or-false x.differs); faults = sym (or-false x.failed) }
 
   -- One path is explained.
-  pub adds_one : (x : Explained) (e : IndexEntry) (old new : Explanations) → entry_of x ≡ e → IsStatusBySight settings filter index x
+  pub adds_one : (x : Explained) (e : IndexEntry) (old new : Explanations) → entry_of x ≡ e → IsStatusBySight settings filter index x → IsWhole x.answer
       → IsSightAllowed may_stat (may_open e.path) (may_link e.path) (may_report e) x.sight
       → new.differs ≡ (old.differs || has_line x) → new.failed ≡ (old.failed || is_err x.answer)
       → Adds may_stat may_open may_link may_report settings filter index (e ∷ []) old new
-  adds_one x e old new is status allowed lines faults = record {
+  adds_one x e old new is status whole allowed lines faults = record {
     found = x ∷ [];
     all = ap (λ (v : IndexEntry). v ∷ []) is;
     each = All-cons (IsExplained may_stat may_open may_link may_report settings filter index) x [] (record {
       status = status;
+      whole = whole;
       allowed = subst (λ (v : IndexEntry). IsSightAllowed may_stat (may_open v.path) (may_link v.path) (may_report v) x.sight) (sym is) allowed;
     }) (All-nil (IsExplained may_stat may_open may_link may_report settings filter index));
     lines = lines ∙ ap (λ (b : Bool). old.differs || b) (sym (or-false (has_line x)));
@@ -56,12 +57,12 @@ module _ {U : Type 0} (may_stat : MayStat) (may_open : List ℕ → MayOpen) (ma
   }
 
   -- The same, unless memory ran out.
-  pub adds_one_on_ok : {A E : Type 0} (r : Result A E) (x : Explained) (e : IndexEntry) (old new : Explanations) → entry_of x ≡ e → IsStatusBySight settings filter index x
+  pub adds_one_on_ok : {A E : Type 0} (r : Result A E) (x : Explained) (e : IndexEntry) (old new : Explanations) → entry_of x ≡ e → IsStatusBySight settings filter index x → IsWhole x.answer
       → IsSightAllowed may_stat (may_open e.path) (may_link e.path) (may_report e) x.sight
       → OnOk r (new.differs ≡ (old.differs || has_line x)) → OnOk r (new.failed ≡ (old.failed || is_err x.answer))
       → OnOk r (Adds may_stat may_open may_link may_report settings filter index (e ∷ []) old new)
-  adds_one_on_ok (Ok v) x e old new is status allowed lines faults = adds_one x e old new is status allowed lines faults
-  adds_one_on_ok (Err v) x e old new is status allowed lines faults = tt
+  adds_one_on_ok (Ok v) x e old new is status whole allowed lines faults = adds_one x e old new is status whole allowed lines faults
+  adds_one_on_ok (Err v) x e old new is status whole allowed lines faults = tt
 
   -- More paths are explained.
   pub adds_more : (es others : List IndexEntry) (old mid new : Explanations) → Adds may_stat may_open may_link may_report settings filter index es old mid
@@ -104,6 +105,7 @@ adds_within may_stat may_open may_link less more settings filter index es old ne
   each = All-weaker (IsExplained may_stat may_open may_link less settings filter index) (IsExplained may_stat may_open may_link more settings filter index)
       (λ x h. record {
         status = h.status;
+        whole = h.whole;
         allowed = record {
           calls = h.allowed.calls;
           file = h.allowed.file;
@@ -128,9 +130,13 @@ all_explained a included index c none all unchanged unfailed h = record {
   faults = h.faults ∙ ap (λ (b : Bool). b || list_any (λ (x : Explained). is_err x.answer) h.found) unfailed;
 }
 
--- The exit status is 1 exactly if a path differs, and 2 if the status of one failed.
-pub exit_explained : {T U : Type 0} (a : Asking T U) (included : List ℕ → Bool → Bool) (index : State) (differs failed : Bool) (n : ℕ) → n ≡ (if failed then 2 else (if differs then 1 else 0))
-    → AreExplained a included index differs failed → n ≢ 2 → AreExplained a included index (n == 1) false
-exit_explained a included index differs true n is h other = absurd (other is)
-exit_explained a included index true false n is h other = subst (λ (b : Bool). AreExplained a included index b false) (sym (ap (λ (m : ℕ). m == 1) is)) h
-exit_explained a included index false false n is h other = subst (λ (b : Bool). AreExplained a included index b false) (sym (ap (λ (m : ℕ). m == 1) is)) h
+-- The same facts of a path that differs, and of one that failed.
+with_both : {T U : Type 0} (a : Asking T U) (included : List ℕ → Bool → Bool) (index : State) (differs failed : Bool) (n : ℕ) → (n == 1) ≡ differs → failed ≡ false
+    → AreExplained a included index differs failed → AreExplained a included index (n == 1) false
+with_both a included index differs failed n is none h = subst (λ (b : Bool). AreExplained a included index b false) (sym is) (subst (λ (b : Bool). AreExplained a included index differs b) none h)
+
+-- The exit status is 1 exactly if a path differs.
+pub exit_explained : {T U : Type 0} (a : Asking T U) (included : List ℕ → Bool → Bool) (index : State) (differs failed : Bool) (n : ℕ) → n ≡ (if differs then 1 else 0) → failed ≡ false
+    → AreExplained a included index differs failed → AreExplained a included index (n == 1) false
+exit_explained a included index true failed n is none h = with_both a included index true failed n (ap (λ (m : ℕ). m == 1) is) none h
+exit_explained a included index false failed n is none h = with_both a included index false failed n (ap (λ (m : ℕ). m == 1) is) none h

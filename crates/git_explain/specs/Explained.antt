@@ -1,5 +1,5 @@
 -- The status of one path by its sight.
-use Rattle.std.specs.Prelude.{◌≡◌, ◌&&◌, ℕ, Bool, true, not, List, [], ◌∷◌, map, All, Option, Some, None, Result, is_err, if◌then◌else◌}
+use Rattle.std.specs.Prelude.{◌≡◌, ◌&&◌, ℕ, Bool, true, false, not, List, [], ◌∷◌, map, All, Option, Some, None, Result, IfOk, is_err, if◌then◌else◌}
 use Rattle.std.specs.FinMap as ids
 use Rattle.std.specs.List.{list_any}
 use Rattle.std.specs.Str.{bytes_eq}
@@ -15,7 +15,9 @@ use Rattle.status_call.specs.Query.{Query}
 use Rattle.status_call.specs.RecorderVisits.{visits_of}
 use Rattle.status_call.specs.StatusTheorem.{IsStatusReport}
 use Rattle.status_call.specs.declared.index_as_worktree.inputs.Settings.{Settings}
+use Rattle.status_call.specs.declared.index_as_worktree.types.Outcome.{Outcome}
 use Rattle.status_compare.specs.Comparers.{counts_after_fast, fast_answer}
+use Rattle.status_compare.specs.declared.error.Error.{Error}
 use Rattle.status_index.specs.Entries.{IndexEntry, entry_at}
 use Rattle.status_index.specs.Mode.{is_submodule}
 use Rattle.status_index.specs.States.{index_of}
@@ -51,6 +53,10 @@ by_sight settings filter path sight = record {
 abbrev pub IsStatusBySight : Settings → LineEnds → State → Explained → Type 0
 IsStatusBySight settings filter index x = IsStatusReport (by_sight settings filter (bstr_bytes x.path) x.sight) index [] x.answer (visits_of x.recorder)
 
+-- The status of the path didn't end early.
+abbrev pub IsWhole : Result Outcome Error → Type 0
+IsWhole answer = IfOk answer (λ o. o.interrupted ≡ false)
+
 -- The entry whose path is explained.
 abbrev pub entry_of : Explained → IndexEntry
 entry_of x = entry_at (bstr_bytes x.path) x.entry.now
@@ -59,10 +65,12 @@ entry_of x = entry_at (bstr_bytes x.path) x.entry.now
 abbrev pub has_line : Explained → Bool
 has_line x = list_any is_difference (visits_of x.recorder)
 
--- The path's status is that of its sight, and each result in this is one that may be returned for the entry.
+-- The path's status is that of its sight, it didn't end early, and each result in the sight is one that may be returned for the
+-- entry.
 pub record IsExplained {U : Type 0} (may_stat : MayStat) (may_open : List ℕ → MayOpen) (may_link : List ℕ → Result (List ℕ) Fault → Type 0)
     (may_report : IndexEntry → Result (Option U) (List ℕ) → Type 0) (settings : Settings) (filter : LineEnds) (index : State) (x : Explained) : Type 0 where
   pub status : IsStatusBySight settings filter index x
+  pub whole : IsWhole x.answer
   pub allowed : let e = entry_of x in IsSightAllowed may_stat (may_open e.path) (may_link e.path) (may_report e) x.sight
 
 -- The first entry of each path, of the paths that are included. The path before these entries is passed too.

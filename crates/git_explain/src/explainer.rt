@@ -48,7 +48,7 @@ impl<'a, 'b, 'files, 'index, W: Worktree, S: SubmoduleStatus> Explainer<
     ghost use Rattle.status_call.specs.RecorderVisits.{visits_of};
     ghost use Rattle.status_call.specs.StatusTheorem.{IsStatusReport};
     ghost use Rattle.git_explain.specs.Allowed.{IsReadFurther, IsSightAllowed};
-    ghost use Rattle.git_explain.specs.Explained.{IsStatusBySight, by_sight};
+    ghost use Rattle.git_explain.specs.Explained.{IsStatusBySight, IsWhole, by_sight};
 
     /// Explains the status of an entry's path. At first no call is made. If that doesn't decide, the directories above the path
     /// and the path are checked by `lstat`. If that doesn't either, the content is read.
@@ -61,6 +61,7 @@ impl<'a, 'b, 'files, 'index, W: Worktree, S: SubmoduleStatus> Explainer<
         path: BStr<'index>,
     ) -> Result<Explained<'index>, AllocError>
         ensures status { IfOk result (IsStatusBySight (settings self.old.options self.old.index.now) self.old.filter self.old.index.now) }
+        ensures whole { IfOk result (λ x. IsWhole x.answer) }
         ensures allowed { IfOk result (λ x. let p = bstr_bytes path.entry in IsSightAllowed (W.may_stat self.old.worktree.now) (W.may_open self.old.worktree.now p)
             (W.may_link self.old.worktree.now p) (S.may_report self.old.submodules (entry_at p entry.now)) x.sight) }
         ensures entry { IfOk result (λ x. (x.entry.now ≡ entry.now) × (bstr_bytes x.path ≡ bstr_bytes path.entry)) }
@@ -137,6 +138,7 @@ impl<'a, 'b, 'files, 'index, W: Worktree, S: SubmoduleStatus> Explainer<
         sight: Sight,
     ) -> Result<Explained<'index>, AllocError>
         ensures status { IfOk result (IsStatusBySight (settings self.now.options self.now.index.now) self.now.filter self.now.index.now) }
+        ensures whole { IfOk result (λ x. IsWhole x.answer) }
         ensures sight { IfOk result (λ x. x.sight ≡ sight) }
         ensures entry { IfOk result (λ x. (x.entry.now ≡ entry.now) × (bstr_bytes x.path ≡ bstr_bytes path.entry)) }
     {
@@ -174,7 +176,8 @@ impl<'a, 'b, 'files, 'index, W: Worktree, S: SubmoduleStatus> Explainer<
         sight: &Sight,
         recorder: &mut Recorder<'index, (), ()>,
     ) -> Result<Result<Outcome, Error>, AllocError>
-        ensures { IfOk result (λ answer. IsStatusReport (by_sight (settings self.now.options self.now.index.now) self.now.filter (bstr_bytes path.entry) sight.now)
+        ensures whole { IfOk result IsWhole }
+        ensures status { IfOk result (λ answer. IsStatusReport (by_sight (settings self.now.options self.now.index.now) self.now.filter (bstr_bytes path.entry) sight.now)
             self.now.index.now (visits_of recorder.old) answer (visits_of recorder.new)) }
     {
         let context = Context {

@@ -17,6 +17,7 @@ use git_status::{Asked, Question};
 use status_base::worktree::{Pathspec, SubmoduleStatus, Worktree};
 use status_index::{Entry, State};
 use std::alloc::{AllocError, Global};
+use std::str;
 
 /// Which paths are explained, and how.
 #[derive(Clone, Copy)]
@@ -210,6 +211,10 @@ fn push_others(alloc: Global, text: &mut Vec<u8>, wanted: Wanted<'_>) -> Result<
 fn push_left_out(alloc: Global, text: &mut Vec<u8>, wanted: Wanted<'_>) -> Result<(), AllocError> {
     for entry in wanted.left_out.entries() {
         let path = entry.path_in(wanted.left_out.path_backing()).as_bytes();
+        // The command fails for a path that isn't UTF-8, and names it then.
+        if str::from_utf8(path).is_err() {
+            continue;
+        }
         push_not_compared(
             alloc,
             text,

@@ -2,6 +2,7 @@
 
 ghost use Rattle.std.specs.Prelude.{◌≡◌, ◌≢◌, ◌⊎◌, ◌==◌, false, if◌then◌else◌};
 ghost use Rattle.git_explain.specs.Explained.{AreExplained};
+ghost use Rattle.git_status.specs.Printing.{IsFaultLine};
 
 use crate::paths::{Wanted, explain_each};
 use git_attributes::AttributeFiles;
@@ -13,7 +14,8 @@ use std::io;
 use text_output::print_all;
 
 /// Explains the status of the selected paths of an index. Prints for each the calls of the worktree with their results, and why
-/// the path has its status. Returns the exit status: 0 if no path differs, 1 if one does, and 2 after a failure.
+/// the path has its status. Returns the exit status: 0 if no path differs, 1 if one does, and 2 after a failure, whose line is
+/// written to `faults`.
 pub fn run_explain<
     'a,
     W: Worktree,
@@ -31,6 +33,8 @@ pub fn run_explain<
     faults: &mut E,
 ) -> u8
     ensures status { (result ≡ 0) ⊎ ((result ≡ 1) ⊎ (result ≡ 2)) }
+    ensures line { result ≡ 2 → IsFaultLine (E.contents faults.old) (E.contents faults.new) }
+    ensures quiet { result ≢ 2 → E.contents faults.new ≡ E.contents faults.old }
     ensures explained { result ≢ 2 → AreExplained (⟦<Asked<'a, W, S, P, A> as Question>⟧.asking asked.entry) (P.included asked.entry.paths) index.now (result == 1) false }
 {
     let Ok(found) = explain_each(alloc, index, asked, wanted) else {
@@ -39,15 +43,15 @@ pub fn run_explain<
     if let Err(error) = print_all(&found.text, output) {
         return print_failure(alloc, error, faults);
     }
-    exit_status(found.failed, found.differs)
+    if found.failed {
+        return print_failure(alloc, "a path can't be compared", faults);
+    }
+    exit_status(found.differs)
 }
 
-/// Returns the exit status, by whether the status of a path failed, and whether one differs.
-fn exit_status(failed: bool, differs: bool) -> u8
-    ensures { result ≡ (if failed then 2 else (if differs then 1 else 0)) }
+/// Returns the exit status, by whether a path differs.
+fn exit_status(differs: bool) -> u8
+    ensures { result ≡ (if differs then 1 else 0) }
 {
-    if failed {
-        return 2;
-    }
     u8::from(differs)
 }

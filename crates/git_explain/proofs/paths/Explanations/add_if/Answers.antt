@@ -18,4 +18,4 @@ returns-clause-adds g c =
     let says = c.in_ok-explained.ensures in
     rw c.if-not-selected.false (adds_one_on_ok (g.W.Worktree.may_stat x.worktree.now) (g.W.Worktree.may_open x.worktree.now) (g.W.Worktree.may_link x.worktree.now) (g.S.SubmoduleStatus.may_report x.submodules)
     (settings x.options x.index.now) x.filter x.index.now c.add.result found (entry_at path c.args.entry.now) c.args.self.now c.add.new.self
-    (entry_is found path c.args.entry.now says.entry.0 says.entry.1) says.status says.allowed c.add.ensures.lines c.add.ensures.faults)
+    (entry_is found path c.args.entry.now says.entry.0 says.entry.1) says.status says.whole says.allowed c.add.ensures.lines c.add.ensures.faults)
