@@ -130,8 +130,8 @@ fn tracked_options(options: &Options) -> index_as_worktree::Options
     }
 }
 
-/// Does the same as `index_as_worktree_with_renames`, with its interfaces in one value. The worktree's guard
-/// allows listings exactly if the options do.
+/// Does the same as `index_as_worktree_with_renames`, with its interfaces in one value. The worktree gets a guard that allows
+/// listings exactly if the options do.
 ///
 /// # Errors
 /// Those of that call.
@@ -159,7 +159,6 @@ where
     W::File: Send,
     C::Output: Send + ExactClone + 'index,
     S::Output: Send + ExactClone + 'index,
-    requires guard { inputs.status.worktree.fscache ≡ call.now.options.fscache }
     ensures { IsJoinedReport (⟦<Inputs<'w, W, C, S, O, P, T, L, K, X> as Ask>⟧.query inputs.entry) call.now.options call.now.index.now
         V.fails (V.visits collector.old) result (V.visits collector.new) }
 {
@@ -173,7 +172,10 @@ where
         return Err(Error::Memory);
     };
     let settings = Settings::of(&tracked_options(options), call.index);
-    let decider = Decider::new(call.alloc, inputs.status, settings);
+    let guard = GuardedWorktree::new(worktree, options.fscache);
+    let mut status = inputs.status;
+    status.worktree = guard;
+    let decider = Decider::new(call.alloc, status, settings);
     let (items, outcome) = match list_halves(rt, call, finder, decider, inputs.should_interrupt) {
         Ok(listed) => listed,
         Err(error) => return Err(error),

@@ -48,7 +48,8 @@ impl<
     K: Walk<W>,
     X: Tracker,
 > Ask for Inputs<'w, W, C, S, O, P, T, L, K, X> {
-    ghost use Rattle.std.specs.Prelude.{is_some};
+    ghost use Rattle.std.specs.Prelude.{false, is_some};
+    ghost use Rattle.status_base.specs.Looked.{guarded};
     ghost use Rattle.status_joined.specs.NodeIds.{identifying};
     ghost use Rattle.status_joined.specs.Walkings.{walker_of};
 
@@ -57,7 +58,7 @@ impl<
     type Submodule = S::Output;
 
     ghost query = { λ i. record {
-      status = ⟦<inputs::Inputs<'w, W, C, S, O, P, T, L> as inputs::Ask>⟧.query i.status;
+      status = ⟦<inputs::Inputs<'w, W, C, S, O, P, T, L> as inputs::Ask>⟧.query (record i.status { worktree = guarded i.worktree false });
       walking = ⟦<Walker<'w, W, K, P> as FindUntracked>⟧.walking (walker_of i.worktree i.walk i.status.pathspec);
       identifying = λ kind. identifying W.modelled W.lstat_of W.open_of W.target_of T.conversion kind i.worktree.now i.status.filter;
       pairs = X.tracks i.tracker;
