@@ -99,7 +99,10 @@ pub fn command_line<'a>(alloc: Global) -> Result<Command<'a>, AllocError> {
                 "Say why a path is listed, or isn't: with PATHS each of theirs",
             )
             .long("explain")
-            .conflicts_with_all(&["zero", "quiet", "refresh", "stats"])?,
+            .conflicts_with("zero")?
+            .conflicts_with("quiet")?
+            .conflicts_with("refresh")?
+            .conflicts_with("stats")?,
         )?
         .arg(
             flag(
