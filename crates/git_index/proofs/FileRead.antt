@@ -11,7 +11,7 @@ use Rattle.git_index.specs.declared.fault.IndexFileError.TheVariants as errors
 use Rattle.git_index.specs.RawEntry.{RawEntry, raw_bytes}
 use Rattle.git_index.specs.Reading.{◌>>=◌, checked, u32_at, extension_name_at, content_at, extension_at}
 use Rattle.git_index.specs.File.{header_bytes, is_optional, IsContent, IsChecksum}
-use Rattle.git_index.specs.Refusals.{Spells, NoExtensionAt, HasHeader, HasEntries, IsEntriesRefusal, Applies, IsHeaded, Passes, IsFileRefusal, sum_of, content_of}
+use Rattle.git_index.specs.Refusals.{IsHeaderRefusal, Spells, NoExtensionAt, HasHeader, HasEntries, IsEntriesRefusal, Applies, IsHeaded, Passes, IsFileRefusal, sum_of, content_of}
 use Rattle.git_index.specs.Counting.{IsEntriesError, IsExtensionError}
 use Rattle.git_index.proofs.Fields.{IsBytes}
 use Rattle.git_index.proofs.Flags.{chosen}
@@ -162,3 +162,15 @@ passed kind bytes (errors.Index x) h s = s
 pub refusal : (kind : HashKind) (bytes : List ℕ) (version count : ℕ) (rest : List ℕ) (e : IndexFileError) → HasHeader (content_of kind bytes) version count rest → IsChecksum kind (content_of kind bytes) (sum_of kind bytes)
     → Applies kind bytes e → IsFileRefusal kind bytes e
 refusal kind bytes version count rest e h s a = record { applies = a; passes = passed kind bytes e (record { version = version; count = count; rest = rest; header = h }) s }
+
+-- a header that isn't read is refused, whatever the checksum
+pub header_refusal : (kind : HashKind) (bytes : List ℕ) (e : IndexFileError) → IsHeaderRefusal kind bytes e → IsFileRefusal kind bytes e
+header_refusal kind bytes (errors.Header f) r = record { applies = r; passes = tt }
+header_refusal kind bytes errors.Checksum r = absurd r
+header_refusal kind bytes (errors.Entry at f) r = absurd r
+header_refusal kind bytes (errors.Extension at) r = absurd r
+header_refusal kind bytes (errors.Required name) r = absurd r
+header_refusal kind bytes (errors.Strip at) r = absurd r
+header_refusal kind bytes (errors.NameLength at) r = absurd r
+header_refusal kind bytes (errors.Index x) r = absurd r
+header_refusal kind bytes errors.Memory r = absurd r

@@ -1,5 +1,6 @@
 -- A file has one list of entries, and bytes that are refused are no file.
-use Rattle.std.proofs.Common.{◌≡◌, ◌≢◌, ℕ, ◌-◌, ◌^◌, ◌<◌, ◌≤◌, Bool, true, false, eqb, ◌||◌, List, [], ◌∷◌, ◌++◌, length, Result, Ok, Err, refl, sym, ap, subst, ◌∙◌, arith, inl, inr, ◌⊎◌}
+use Rattle.std.proofs.Common.{◌≡◌, ◌≢◌, ℕ, ◌-◌, ◌^◌, ◌<◌, ◌≤◌, Bool, true, false, eqb, ◌||◌, List, [], ◌∷◌, ◌++◌, length, Result, Ok, Err, IfOk, IfErr, refl, sym, ap, subst, ◌∙◌, arith, inl, inr, ◌⊎◌}
+use Rattle.std.specs.Prelude.{MatchResult}
 use Rattle.std.specs.List.{flat_map, AllByRecursion}
 use Rattle.std.proofs.lemmas.Bool.{eqb-true}
 use Rattle.std.proofs.lemmas.List.{append-nil, length-append, length-replicate, take_at, drop_at, take-append-drop}
@@ -13,6 +14,8 @@ use Rattle.status_index.proofs.Refusals.{IsRefusal-more, Memory-from_index}
 use Rattle.git_index.specs.declared.fault.Fault.{Fault}
 use Rattle.git_index.specs.declared.fault.Fault.TheVariants as faults
 use Rattle.git_index.specs.declared.fault.IndexFileError.{IndexFileError}
+use Rattle.git_index.specs.declared.index_file.IndexFile.{IndexFile}
+use Rattle.status_index.specs.States.{index_of}
 use Rattle.git_index.specs.declared.fault.IndexFileError.TheVariants as errors
 use Rattle.git_index.specs.Numbers.{u32_bytes}
 use Rattle.git_index.specs.RawEntry.{RawEntry, RawFits, id_len, raw_bytes}
@@ -307,3 +310,9 @@ unfolding header_at u32_at
 too_short kind bytes lt =
     let none : length bytes - id_len kind ≡ 0 = omega arith in
     rw none refl
+
+-- of a valid index, what is read has its entries, and it is refused only if memory runs out
+pub only_of : (kind : HashKind) (bytes : List ℕ) (result : Result IndexFile IndexFileError) → IfOk result (λ r. IsFileOf kind bytes r.version (index_of r.state) r.extensions.now) → IfErr result (IsFileRefusal kind bytes)
+    → (es : List IndexEntry) → IsIndexFile kind bytes es → IsIndex es → MatchResult result (λ r. index_of r.state ≡ es) (λ e. e ≡ errors.Memory)
+only_of kind bytes (Ok r) found refused es f valid = one_file kind bytes r.version (index_of r.state) r.extensions.now es found f
+only_of kind bytes (Err e) found refused es f valid = not_refused kind bytes es e f valid refused

@@ -1,13 +1,13 @@
 -- The entries of a file that was read can be written.
-use Rattle.std.proofs.Common.{◌≡◌, ◌≢◌, ℕ, zero, suc, ◌-◌, ◌≤◌, List, [], ◌∷◌, ◌++◌, length, take, refl, sym, ap, subst, arith, inl, inr}
+use Rattle.std.proofs.Common.{◌≡◌, ◌≢◌, ℕ, zero, suc, ◌-◌, ◌≤◌, List, [], ◌∷◌, ◌++◌, length, take, replicate, refl, sym, ap, subst, arith, inl, inr}
 use Rattle.std.specs.List.{AllByRecursion}
 use Rattle.std.proofs.lemmas.Bool.Decides.{eqb_tells}
 use Rattle.std.proofs.lemmas.List.Elements.{All-nil, All-take, All-drop, All-append}
 use Rattle.status_index.specs.declared.id.HashKind.{HashKind}
 use Rattle.status_index.specs.Entries.{IndexEntry}
-use Rattle.git_index.specs.RawEntry.{RawEntry, RawFits, HasNoZero, StripFits}
+use Rattle.git_index.specs.RawEntry.{RawEntry, RawFits, HasNoZero, StripFits, id_len}
 use Rattle.git_index.specs.Paths.{path_after, entry_after, entries_after, AllFollow, Follows}
-use Rattle.git_index.specs.File.{IsFileOf}
+use Rattle.git_index.specs.File.{IsContent, IsFileOf}
 use Rattle.git_index.specs.Writing.{raw_after, raw_entries, common_len, EntriesFit}
 use Rattle.git_index.specs.WholeFile.{IsWholeFile}
 use Rattle.git_index.specs.declared.index_file.IndexFile.{IndexFile}
@@ -72,3 +72,16 @@ whole_file bytes f file = record {
   fit = entries_fit f.kind bytes f.version (index_of f.state) f.extensions.now file;
   optional = file.parts.optional;
 }
+
+-- the content that was read can be written, whatever its checksum
+pub whole_content : (f : IndexFile) (rs : List RawEntry) (content : List ℕ) → IsContent f.kind f.version rs f.extensions.now content → AllFollow f.version [] rs → index_of f.state ≡ entries_after f.version [] rs → IsWholeFile f
+whole_content f rs content parts follow entries = whole_file (content ++ replicate (id_len f.kind) 0) f (record {
+  raw = rs;
+  content = content;
+  sum = replicate (id_len f.kind) 0;
+  parts = parts;
+  follow = follow;
+  entries = entries;
+  checked = inr refl;
+  whole = refl;
+})

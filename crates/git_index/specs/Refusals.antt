@@ -50,6 +50,10 @@ content_of kind bytes = take (length bytes - id_len kind) bytes
 abbrev pub sum_of : HashKind → List ℕ → List ℕ
 sum_of kind bytes = drop (length bytes - id_len kind) bytes
 
+-- The file ends with the checksum of its content, or with zeros in place of one.
+abbrev pub EndsWithChecksum : HashKind → List ℕ → Type 0
+EndsWithChecksum kind bytes = IsChecksum kind (content_of kind bytes) (sum_of kind bytes)
+
 -- The header of a content, and the bytes after it.
 pub record HasHeader (content : List ℕ) (version count : ℕ) (rest : List ℕ) : Type 0 where
   pub signature : ℕ
@@ -143,7 +147,7 @@ pub record IsRequiredExtension (kind : HashKind) (content name : List ℕ) : Typ
 -- The error applies to the bytes.
 abbrev pub Applies : HashKind → List ℕ → IndexFileError → Type 0
 Applies kind bytes (errors.Header fault) = header_at (content_of kind bytes) ≡ Err fault
-Applies kind bytes errors.Checksum = IsChecksum kind (content_of kind bytes) (sum_of kind bytes) → ⊥
+Applies kind bytes errors.Checksum = EndsWithChecksum kind bytes → ⊥
 Applies kind bytes (errors.Entry at fault) = NoEntries kind (content_of kind bytes) at fault
 Applies kind bytes (errors.Extension at) = IsCutExtension kind (content_of kind bytes) at
 Applies kind bytes (errors.Required name) = IsRequiredExtension kind (content_of kind bytes) name
@@ -164,9 +168,14 @@ abbrev pub Passes : HashKind → List ℕ → IndexFileError → Type 0
 Passes kind bytes (errors.Header fault) = ⊤
 Passes kind bytes errors.Checksum = IsHeaded (content_of kind bytes)
 Passes kind bytes errors.Memory = ⊤
-Passes kind bytes _ = IsChecksum kind (content_of kind bytes) (sum_of kind bytes)
+Passes kind bytes _ = EndsWithChecksum kind bytes
 
 -- The error applies to the bytes, and they pass all that is compared before it.
 pub record IsFileRefusal (kind : HashKind) (bytes : List ℕ) (e : IndexFileError) : Type 0 where
   pub applies : Applies kind bytes e
   pub passes : Passes kind bytes e
+
+-- The bytes don't begin with a header, for this error.
+abbrev pub IsHeaderRefusal : HashKind → List ℕ → IndexFileError → Type 0
+IsHeaderRefusal kind bytes (errors.Header fault) = header_at (content_of kind bytes) ≡ Err fault
+IsHeaderRefusal kind bytes _ = ⊥

@@ -18,5 +18,5 @@ mod write;
 
 pub use fault::{Fault, IndexFileError};
 pub use index_file::IndexFile;
-pub use read::read_index;
+pub use read::{ends_with_checksum, read_index, read_unchecked};
 pub use write::write_index;

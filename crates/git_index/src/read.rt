@@ -1,12 +1,12 @@
 //! Reads a file.
 
-ghost use Rattle.std.specs.Prelude.{◌≡◌, ◌↔◌, ◌≤◌, [], List, length, IfOk, IfErr, MatchResult, false, replicate};
+ghost use Rattle.std.specs.Prelude.{◌≡◌, ◌↔◌, ◌≤◌, [], List, length, IfOk, IfErr, IsTrue, MatchResult, false, replicate};
 ghost use Rattle.status_index.specs.Entries.{IndexEntry, IsIndex};
 ghost use Rattle.status_index.specs.States.{index_of, timestamp_of};
 ghost use Rattle.git_index.specs.RawEntry.{id_len};
 ghost use Rattle.git_index.specs.File.{IsFileOf, IsIndexFile};
 ghost use Rattle.git_index.specs.WholeFile.{IsWholeFile};
-ghost use Rattle.git_index.specs.Refusals.{IsFileRefusal, sum_of};
+ghost use Rattle.git_index.specs.Refusals.{EndsWithChecksum, HasHeader, IsFileRefusal, IsHeaderRefusal, content_of, sum_of};
 ghost use Rattle.git_index.specs.Counting.{IsEntriesError, IsExtensionError, AreEntries};
 
 use crate::checksum::{id_len_of, is_checksum};
@@ -122,6 +122,55 @@ fn extension_error(content: &[u8], none: NoExtension<'_>) -> IndexFileError
     }
 }
 
+/// The parts of a file around its entries.
+#[derive(Clone, Copy)]
+struct Parts<'a> {
+    header: Header,
+    /// The bytes before the checksum.
+    content: &'a [u8],
+    /// The checksum.
+    sum: &'a [u8],
+    /// The content after the header.
+    rest: &'a [u8],
+}
+
+/// Returns the parts of a file whose ids are of this kind.
+///
+/// # Errors
+/// The file doesn't begin with a header, or is shorter than a checksum.
+fn parts_of(kind: HashKind, bytes: &[u8]) -> Result<Parts<'_>, IndexFileError>
+    ensures content { IfOk result (λ p. p.content.now ≡ content_of kind bytes.now) }
+    ensures sum { IfOk result (λ p. p.sum.now ≡ sum_of kind bytes.now) }
+    ensures header { IfOk result (λ p. HasHeader (content_of kind bytes.now) p.header.version p.header.count p.rest.now) }
+    ensures refused { IfErr result (IsHeaderRefusal kind bytes.now) }
+{
+    let sum_len = id_len_of(kind);
+    if bytes.len() < sum_len {
+        return Err(IndexFileError::Header(Fault::Truncated));
+    }
+    let (content, sum) = bytes.split_at(bytes.len() - sum_len);
+    let mut cursor = Cursor { rest: content };
+    match cursor.header() {
+        Ok(header) => Ok(Parts {
+            header,
+            content,
+            sum,
+            rest: cursor.rest,
+        }),
+        Err(fault) => Err(IndexFileError::Header(fault)),
+    }
+}
+
+/// Returns whether a file ends with the checksum of its content, or with zeros in place of one, as git's `index.skipHash`
+/// writes them.
+pub fn ends_with_checksum(kind: HashKind, bytes: &[u8]) -> bool
+    ensures { IsTrue result ↔ EndsWithChecksum kind bytes.now }
+{
+    let content_len = bytes.len().saturating_sub(id_len_of(kind));
+    let (content, sum) = bytes.split_at(content_len);
+    is_checksum(kind, content, sum)
+}
+
 /// Reads an index file, of version 2, 3 or 4, of a repository whose ids are of this kind. `timestamp` is when the file
 /// was written.
 ///
@@ -145,24 +194,45 @@ pub fn read_index(
         → MatchResult result (λ r. (index_of r.state) ≡ es) (λ e. e ≡ IndexFileError.Memory) }
     ensures refused { IfErr result (IsFileRefusal kind bytes.now) }
 {
-    let sum_len = id_len_of(kind);
-    if bytes.len() < sum_len {
-        return Err(IndexFileError::Header(Fault::Truncated));
+    if let Err(error) = parts_of(kind, bytes) {
+        return Err(error);
     }
-    let (content, sum) = bytes.split_at(bytes.len() - sum_len);
-    let mut cursor = Cursor { rest: content };
-    let Header { version, count } = match cursor.header() {
-        Ok(header) => header,
-        Err(fault) => return Err(IndexFileError::Header(fault)),
-    };
-    if !is_checksum(kind, content, sum) {
+    if !ends_with_checksum(kind, bytes) {
         return Err(IndexFileError::Checksum);
     }
+    read_unchecked(alloc, kind, bytes, timestamp)
+}
+
+/// Does what `read_index` does, without comparing the checksum. The caller does that, by `ends_with_checksum`: until then
+/// nothing is known of the file that is returned, but that it can be written.
+///
+/// # Errors
+/// Those of `read_index`, but for a wrong checksum.
+pub fn read_unchecked(
+    alloc: Global,
+    kind: HashKind,
+    bytes: &[u8],
+    timestamp: Moment,
+) -> Result<IndexFile<'_>, IndexFileError>
+    ensures found { EndsWithChecksum kind bytes.now → IfOk result (λ r. IsFileOf kind bytes.now r.version (index_of r.state) r.extensions.now) }
+    ensures kind { IfOk result (λ r. r.kind ≡ kind) }
+    ensures whole { IfOk result IsWholeFile }
+    ensures sum { IfOk result (λ r. (r.has_checksum ≡ false) ↔ (sum_of kind bytes.now ≡ replicate (id_len kind) 0)) }
+    ensures timestamp { IfOk result (λ r. timestamp_of r.state ≡ timestamp) }
+    ensures refused { EndsWithChecksum kind bytes.now → IfErr result (IsFileRefusal kind bytes.now) }
+{
+    let Parts {
+        header,
+        content,
+        sum,
+        rest,
+    } = parts_of(kind, bytes)?;
+    let Header { version, count } = header;
     let Entries {
         state,
         refused,
         rest,
-    } = entries_of(alloc, kind, version, count, cursor.rest, timestamp)?;
+    } = entries_of(alloc, kind, version, count, rest, timestamp)?;
     if let Err(none) = check_extensions(rest) {
         return Err(extension_error(content, none));
     }
