@@ -3,6 +3,11 @@ pub mod Fitting
 pub mod Founds
 pub mod LeftOut
 pub mod Mapped
+pub mod RefreshLaw
+pub mod RefreshRun
+pub mod RefreshedEntries
+pub mod RefreshedRecords
+pub mod RefreshedVerdicts
 pub mod Refreshing
 pub mod Runs
 pub mod Selected

@@ -8,5 +8,6 @@ pub mod Paths
 pub mod Printing
 pub mod Quoting
 pub mod Reads
+pub mod RefreshLaw
 pub mod Refreshes
 pub mod Runs

@@ -1,10 +1,14 @@
 //! Laws that a user relies on. Each function's contract is a law of the definitions, and no function does anything.
 
 ghost use Rattle.std.specs.Prelude.{List, ℕ};
+ghost use Rattle.git_attributes.specs.Files.{Said};
 ghost use Rattle.git_attributes.specs.declared.line_ends.LineEnds.{LineEnds};
 ghost use Rattle.status_call.specs.Query.{Query};
+ghost use Rattle.status_call.specs.Visits.{Visit};
 ghost use Rattle.status_call.specs.declared.index_as_worktree.inputs.Settings.{Settings as StatusSettings};
+ghost use Rattle.status_index.specs.Entries.{IndexEntry};
 ghost use Rattle.git_status.specs.Differences.{LinesLaw};
+ghost use Rattle.git_status.specs.RefreshLaw.{KeptLaw, LeftOutLaw, OwnLaw, RefreshLaw, RefreshesLaw};
 ghost use Rattle.git_status.specs.Runs.{CleanLaw};
 ghost use Rattle.git_status.specs.declared.asked.Settings.{Settings as AskedSettings};
 
@@ -22,4 +26,24 @@ pub fn clean_means_no_difference<T: Drop, Q: Question>(asked: &Q)
 pub fn lines_are_of_all_differences<T: Drop, Q: Question>(asked: &Q)
     ensures { (query : LineEnds → StatusSettings → Query T Q.Submodule) (settings : AskedSettings) (bytes : List ℕ)
         → LinesLaw (record { query = query; are_files = (Q.asking asked.now).are_files; may_return = (Q.asking asked.now).may_return; settings = settings }) bytes }
+{}
+
+/// A refresh changes each entry that has a record by that record alone, and no other entry.
+pub fn refresh_changes_own_entries<T: Drop, U: Drop>()
+    ensures { (said : Said) (visits : List (Visit T U)) (es : List IndexEntry) → OwnLaw said visits es }
+{}
+
+/// A refresh hides no difference: an entry that has a record shows the same letters after it. If the record's change is
+/// stored, the time of the new index doesn't matter; if it is left out, the new index has to be of no later time.
+pub fn refresh_hides_nothing<U: Drop>()
+    ensures kept { (q later : Query (Unit {0}) U) (e : IndexEntry) → KeptLaw q later e }
+    ensures left_out { (q later : Query (Unit {0}) U) (e : IndexEntry) → LeftOutLaw q later e }
+    ensures index { (said : Said) (q later : Query (Unit {0}) U) (visits : List (Visit (Unit {0}) U)) (es : List IndexEntry) → RefreshLaw said q later visits es }
+{}
+
+/// A refresh by the command hides no difference from a later status that compares by sizes too: over a modelled worktree,
+/// and over any, by what was seen of each entry.
+pub fn refreshes_hide_nothing<Q: Question>(asked: &Q)
+    ensures { (query : LineEnds → StatusSettings → Query (Unit {0}) Q.Submodule) (settings : AskedSettings) (bytes : List ℕ)
+        → RefreshesLaw (record { query = query; are_files = (Q.asking asked.now).are_files; may_return = (Q.asking asked.now).may_return; settings = settings }) bytes }
 {}

@@ -30,7 +30,10 @@ pub use answer::{Report, has_difference};
 pub use asked::{Asked, Question, Settings};
 pub use dirty::{print_file, run_dirty};
 pub use failure::Failure;
-pub use laws::{clean_means_no_difference, lines_are_of_all_differences};
+pub use laws::{
+    clean_means_no_difference, lines_are_of_all_differences, refresh_changes_own_entries,
+    refresh_hides_nothing, refreshes_hide_nothing,
+};
 pub use output::print_failure;
 pub use paths::{Paths, Top};
 pub use read::ReadIndex;
