@@ -93,64 +93,77 @@ where
     R::File: Send,
     R::Dir: Send,
 {
-    let alloc = rt.alloc();
     let repository = Repository::discover(rt, request.folder)?;
-    let top = repository.top.as_str();
     let selected = selected_by(rt, &repository, &request.paths)?;
-    let tops = tops_of(alloc, &selected)?;
     let Some(file) = read_index_file(rt, &repository)? else {
-        check_without_index(rt, top, &selected)?;
+        check_without_index(rt, repository.top.as_str(), &selected)?;
         return Ok(0);
     };
-    let settings = settings_of(&repository, request, file.timestamp);
-    let read = ReadIndex::of(alloc, &file.bytes, &settings)?;
+    run_over_index(rt, request, &repository, &selected, &file, output, faults)
+}
+
+/// Does the same for the index file of a repository, and the paths that are selected.
+///
+/// # Errors
+/// The index or a setting can't be read, a path selects nothing, or the index can't be refreshed.
+fn run_over_index<R: AllocGlobal + Env + Files + Sync + Threads + Wait, O: io::Write, E: io::Write>(
+    rt: &R,
+    request: &Request<'_>,
+    repository: &Repository,
+    selected: &[Selected<'_>],
+    file: &FoundIndex,
+    output: &mut O,
+    faults: &mut E,
+) -> Result<u8, Refused>
+where
+    R::File: Send,
+    R::Dir: Send,
+{
+    let alloc = rt.alloc();
+    let top = repository.top.as_str();
+    let tops = tops_of(alloc, selected)?;
+    let settings = settings_of(repository, request, file.timestamp);
+    let read = ReadIndex::in_parallel(rt, &file.bytes, &settings)?;
     let worktree = worktree_at(rt, top, request.enter)?;
-    check_each(alloc, &read.file.state, &worktree, &selected)?;
+    check_each(alloc, &read.file.state, &worktree, selected)?;
     let ignored = IgnoredSubmodules::read(rt, top, &repository.config, &read.file.state)?;
-    note_unread(request, &repository, &ignored, faults);
-    let Exceptions {
-        left_out,
-        intended,
-        illformed,
-    } = Exceptions::of(alloc, &read.file.state, &worktree, &selected, &ignored)?;
+    note_unread(request, repository, &ignored, faults);
+    let exceptions = Exceptions::of(alloc, &read.file.state, &worktree, selected, &ignored)?;
     let unread = AtomicBool::new(false);
-    let attributes = GitAttributeFiles::new(rt, &worktree, &repository, &unread)?;
     let asked = Asked {
         settings,
         worktree: &worktree,
         submodules: SubmoduleHeads::new(rt, top, &ignored),
         paths: Paths {
             tops: &tops,
-            left_out: &left_out,
+            left_out: &exceptions.left_out,
         },
-        attributes,
+        attributes: GitAttributeFiles::new(rt, &worktree, repository, &unread)?,
     };
-    let begun = if request.refresh {
-        Some(time_of_lock(rt, repository.index.as_str()))
-    } else {
-        None
-    };
-    let untracked = untracked_of(alloc, &read.file.state, &selected)?;
+    let begun = request
+        .refresh
+        .then(|| time_of_lock(rt, repository.index.as_str()));
+    let untracked = untracked_of(alloc, &read.file.state, selected)?;
     let nested = Nested {
         top,
-        intended: &intended,
+        intended: &exceptions.intended,
         wanted: Wanted {
             all: !selected.is_empty(),
             json: request.json,
-            left_out: &left_out,
+            left_out: &exceptions.left_out,
             untracked: &untracked,
         },
     };
     let compared = compare(rt, request, read, nested, asked, output, faults);
-    if compared.status != FAILED && !illformed.is_empty() {
-        return Ok(print_illformed(alloc, &illformed, faults));
+    if compared.status != FAILED && !exceptions.illformed.is_empty() {
+        return Ok(print_illformed(alloc, &exceptions.illformed, faults));
     }
     let Some(begun) = begun else {
         return Ok(compared.status);
     };
     let refresh = Refresh {
-        repository: &repository,
-        old: &file,
+        repository,
+        old: file,
         begun,
         unread: unread.load(Ordering::Relaxed),
     };
@@ -252,32 +265,24 @@ where
         paths: asked.paths,
         attributes: asked.attributes,
     };
-    if request.explain {
-        let status = run_explain(
-            rt.alloc(),
-            &read.file.state,
-            asked,
-            nested.wanted,
-            output,
-            faults,
-        );
-        Refreshed {
-            status,
-            bytes: None,
-            is_whole: false,
-            extensions: &[],
-        }
-    } else if !request.refresh {
-        Refreshed {
-            status: run_dirty(rt, &read, asked, output, faults),
-            bytes: None,
-            is_whole: false,
-            extensions: &[],
-        }
-    } else if request.quiet {
-        run_refresh(rt, read, asked, &mut io::sink(), faults)
+    if request.refresh && !request.explain {
+        return if request.quiet {
+            run_refresh(rt, read, asked, &mut io::sink(), faults)
+        } else {
+            run_refresh(rt, read, asked, output, faults)
+        };
+    }
+    let status = if request.explain {
+        let index = &read.file.state;
+        run_explain(rt.alloc(), index, asked, nested.wanted, output, faults)
     } else {
-        run_refresh(rt, read, asked, output, faults)
+        run_dirty(rt, &read, asked, output, faults)
+    };
+    Refreshed {
+        status,
+        bytes: None,
+        is_whole: false,
+        extensions: &[],
     }
 }
 

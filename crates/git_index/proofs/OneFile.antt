@@ -22,7 +22,9 @@ use Rattle.git_index.specs.RawEntry.{RawEntry, RawFits, id_len, raw_bytes}
 use Rattle.git_index.specs.Paths.{entries_after, entry_after, path_after, last_path, Follows, AllFollow}
 use Rattle.git_index.specs.Reading.{signature, u32_at, header_at, raw_at}
 use Rattle.git_index.specs.File.{AreExtensions, header_bytes, is_version, IsChecksum, IsContent, IsFileOf, IsIndexFile}
-use Rattle.git_index.specs.Refusals.{Applies, Spells, content_of, sum_of, HasHeader, HasEntries, NoExtensionAt, IsEntriesRefusal, NoIndexIn, IsFileRefusal}
+use Rattle.git_index.specs.WholeFile.{IsUncheckedFile}
+use Rattle.status_index.specs.declared.stat.Moment.{Moment}
+use Rattle.git_index.specs.Refusals.{Applies, EndsWithChecksum, Spells, content_of, sum_of, HasHeader, HasEntries, NoExtensionAt, IsEntriesRefusal, NoIndexIn, IsFileRefusal}
 use Rattle.git_index.proofs.Fields.{IsBytes}
 use Rattle.git_index.proofs.Header.{HeaderFits, header_reader}
 use Rattle.git_index.proofs.Listing.{got_never, reads_first, More, more_of, none_refused}
@@ -312,7 +314,7 @@ too_short kind bytes lt =
     rw none refl
 
 -- of a valid index, what is read has its entries, and it is refused only if memory runs out
-pub only_of : (kind : HashKind) (bytes : List ℕ) (result : Result IndexFile IndexFileError) → IfOk result (λ r. IsFileOf kind bytes r.version (index_of r.state) r.extensions.now) → IfErr result (IsFileRefusal kind bytes)
+pub only_of : (kind : HashKind) (bytes : List ℕ) (timestamp : Moment) (result : Result IndexFile IndexFileError) → IfOk result (IsUncheckedFile kind bytes timestamp) → EndsWithChecksum kind bytes → IfErr result (IsFileRefusal kind bytes)
     → (es : List IndexEntry) → IsIndexFile kind bytes es → IsIndex es → MatchResult result (λ r. index_of r.state ≡ es) (λ e. e ≡ errors.Memory)
-only_of kind bytes (Ok r) found refused es f valid = one_file kind bytes r.version (index_of r.state) r.extensions.now es found f
-only_of kind bytes (Err e) found refused es f valid = not_refused kind bytes es e f valid refused
+only_of kind bytes timestamp (Ok r) read summed refused es f valid = one_file kind bytes r.version (index_of r.state) r.extensions.now es (read.found summed) f
+only_of kind bytes timestamp (Err e) read summed refused es f valid = not_refused kind bytes es e f valid refused

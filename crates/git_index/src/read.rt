@@ -5,7 +5,7 @@ ghost use Rattle.status_index.specs.Entries.{IndexEntry, IsIndex};
 ghost use Rattle.status_index.specs.States.{index_of, timestamp_of};
 ghost use Rattle.git_index.specs.RawEntry.{id_len};
 ghost use Rattle.git_index.specs.File.{IsFileOf, IsIndexFile};
-ghost use Rattle.git_index.specs.WholeFile.{IsWholeFile};
+ghost use Rattle.git_index.specs.WholeFile.{IsUncheckedFile, IsWholeFile};
 ghost use Rattle.git_index.specs.Refusals.{EndsWithChecksum, HasHeader, IsFileRefusal, IsHeaderRefusal, content_of, sum_of};
 ghost use Rattle.git_index.specs.Counting.{IsEntriesError, IsExtensionError, AreEntries};
 
@@ -163,7 +163,7 @@ fn parts_of(kind: HashKind, bytes: &[u8]) -> Result<Parts<'_>, IndexFileError>
 
 /// Returns whether a file ends with the checksum of its content, or with zeros in place of one, as git's `index.skipHash`
 /// writes them.
-pub fn ends_with_checksum(kind: HashKind, bytes: &[u8]) -> bool
+pub(crate) fn ends_with_checksum(kind: HashKind, bytes: &[u8]) -> bool
     ensures { IsTrue result ↔ EndsWithChecksum kind bytes.now }
 {
     let content_len = bytes.len().saturating_sub(id_len_of(kind));
@@ -203,22 +203,17 @@ pub fn read_index(
     read_unchecked(alloc, kind, bytes, timestamp)
 }
 
-/// Does what `read_index` does, without comparing the checksum. The caller does that, by `ends_with_checksum`: until then
-/// nothing is known of the file that is returned, but that it can be written.
+/// Does what `read_index` does, without comparing the checksum, which the caller does.
 ///
 /// # Errors
 /// Those of `read_index`, but for a wrong checksum.
-pub fn read_unchecked(
+pub(crate) fn read_unchecked(
     alloc: Global,
     kind: HashKind,
     bytes: &[u8],
     timestamp: Moment,
 ) -> Result<IndexFile<'_>, IndexFileError>
-    ensures found { EndsWithChecksum kind bytes.now → IfOk result (λ r. IsFileOf kind bytes.now r.version (index_of r.state) r.extensions.now) }
-    ensures kind { IfOk result (λ r. r.kind ≡ kind) }
-    ensures whole { IfOk result IsWholeFile }
-    ensures sum { IfOk result (λ r. (r.has_checksum ≡ false) ↔ (sum_of kind bytes.now ≡ replicate (id_len kind) 0)) }
-    ensures timestamp { IfOk result (λ r. timestamp_of r.state ≡ timestamp) }
+    ensures found { IfOk result (IsUncheckedFile kind bytes.now timestamp) }
     ensures refused { EndsWithChecksum kind bytes.now → IfErr result (IsFileRefusal kind bytes.now) }
 {
     let Parts {

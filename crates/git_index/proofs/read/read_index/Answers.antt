@@ -25,4 +25,4 @@ returns-then-not-ends_with_checksum-clause-only c = λ es f valid.
 pub returns-clause-only : goal.returns-clause-only
 returns-clause-only c =
     let summed = c.ends_with_checksum.ensures.0 c.if-not-ends_with_checksum.false in
-    only_of c.args.kind c.args.bytes.now c.read_unchecked.result (c.read_unchecked.ensures.found summed) (c.read_unchecked.ensures.refused summed)
+    only_of c.args.kind c.args.bytes.now c.args.timestamp c.read_unchecked.result c.read_unchecked.ensures.found summed (c.read_unchecked.ensures.refused summed)
