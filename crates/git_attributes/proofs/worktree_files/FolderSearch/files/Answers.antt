@@ -14,12 +14,12 @@ use Rattle.git_attributes.proofs.worktree_files.FolderSearch.files.Goals as goal
 
 pub add_file-requires : goal.add_file-requires
 add_file-requires g c =
-    let tree = c.args.self.now.worktree.now in
+    let tree = c.args.self.now.worktree.worktree.now in
     subst (IsOpen (g.W.Worktree.may_stat tree)) (sym (ap (λ (s : CheckState). s.path) c.new-check.ensures)) (open_nothing _ (g.met.W.Worktree.stat_may_fail tree))
 
 pub entries-init : goal.entries-init
 entries-init g c =
-    let tree = c.args.self.now.worktree.now in
+    let tree = c.args.self.now.worktree.worktree.now in
     let may_stat = g.W.Worktree.may_stat tree in
     let may_open = g.W.Worktree.may_open tree in
     let index = c.args.self.now.index.now in
@@ -36,7 +36,7 @@ entries-init g c =
 
 pub entries-preserved : goal.entries-preserved
 entries-preserved g c =
-    let tree = c.args.self.now.worktree.now in
+    let tree = c.args.self.now.worktree.worktree.now in
     let may_stat = g.W.Worktree.may_stat tree in
     let may_open = g.W.Worktree.may_open tree in
     let index = c.args.self.now.index.now in

@@ -9,8 +9,8 @@ use Rattle.git_attributes.proofs.worktree_files.FolderSearch.files.Given as goal
 
 abbrev pub invariant-entries : goal.invariant-entries
 invariant-entries g l =
-    IsOpen (g.W.Worktree.may_stat l.self.worktree.now) l.check.path
-    × IsWalked (g.W.Worktree.may_stat l.self.worktree.now) (g.W.Worktree.may_open l.self.worktree.now)
+    IsOpen (g.W.Worktree.may_stat l.self.worktree.worktree.now) l.check.path
+    × IsWalked (g.W.Worktree.may_stat l.self.worktree.worktree.now) (g.W.Worktree.may_open l.self.worktree.worktree.now)
     (folders_of (index_of l.self.index.now)) (folders_after l.before (index_entries (backing_of l.self.index.now) l.rest))
     [] (map file_view l.files.items)
 
