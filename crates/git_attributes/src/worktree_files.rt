@@ -1,6 +1,7 @@
 //! The attribute files within a worktree.
 
-ghost use Rattle.std.specs.Prelude.{◌≡◌, ◌≤◌, [], ◌∷◌, IfOk, OnOk, None, length, take, drop, map, option_map};
+ghost use Rattle.std.specs.Prelude.{◌≡◌, ◌≤◌, [], ◌∷◌, nat_eq, true, IfOk, OnOk, None, length, take, drop, map, option_map};
+ghost use Rattle.std.specs.List.{starts_with};
 ghost use Rattle.bstr.specs.BStr.{bstr_bytes};
 ghost use Rattle.status_index.specs.States.{index_of};
 ghost use Rattle.status_index.specs.declared.stat.NodeKind.TheVariants.{File};
@@ -11,7 +12,7 @@ ghost use Rattle.status_base.specs.Looked.{IsLookedAt};
 ghost use Rattle.status_base.specs.Sights.{IsOpen};
 ghost use Rattle.git_attributes.specs.Views.{file_view};
 ghost use Rattle.git_attributes.specs.WorktreeFiles.{AreFilesSeen, at_fault, file_of, file_path, folders_from, folders_of, found, new_folders, nothing, up_to_long};
-ghost use Rattle.git_attributes.specs.FolderSteps.{AreAdded, IsFolderAdded, IsNextFolder, IsOpenSeen, IsPathSeen, IsReadSeen, IsRefusalOf};
+ghost use Rattle.git_attributes.specs.FolderSteps.{AreAdded, IsFolderAdded, IsIn, IsNextFolder, IsOpenSeen, IsPathSeen, IsReadSeen, IsRefusalOf};
 
 use crate::files::{AttributeFile, AttributeFiles};
 use crate::words::first_at;
@@ -87,10 +88,14 @@ impl<W: Worktree> FolderSearch<'_, W> {
         let mut files = Vec::new(self.alloc);
         self.add_file(b"", &mut check, &mut files)?;
         let mut before: &[u8] = b"";
+        let mut folder: &[u8] = b"";
         let mut rest = self.index.entries();
         'entries: while let [entry, after @ ..] = rest {
             let path = entry.path_in(self.index.path_backing()).as_bytes();
-            self.add_new(before, path, &mut check, &mut files)?;
+            if !is_in(folder, path) {
+                self.add_new(before, path, &mut check, &mut files)?;
+                folder = folder_of(path);
+            }
             before = path;
             rest = after;
         }
@@ -289,6 +294,23 @@ fn folder_end(path: &[u8], at: usize) -> Option<usize>
     match first_at(b'/', &path[at..]) {
         Some(slash) => Some(at + slash + 1),
         None => None,
+    }
+}
+
+/// Returns whether a path is in a folder itself, and not in one below.
+fn is_in(folder: &[u8], path: &[u8]) -> bool
+    ensures { result ≡ true → IsIn folder.now path.now }
+{
+    path.starts_with(folder) && folder_end(path, folder.len()).is_none()
+}
+
+/// Returns the folder of a path, with the slash after it.
+fn folder_of(path: &[u8]) -> &[u8]
+    ensures { starts_with nat_eq path.now result.now ≡ true }
+{
+    match path.iter().rposition(|byte| *byte == b'/') {
+        Some(slash) => &path[..slash + 1],
+        None => b"",
     }
 }
 
