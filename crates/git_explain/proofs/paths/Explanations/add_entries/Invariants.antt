@@ -1,4 +1,4 @@
-use Rattle.std.proofs.Common.{◌≡◌, ◌++◌, [], List, ℕ, Option, Result, length, map}
+use Rattle.std.proofs.Common.{◌≡◌, ◌++◌, [], List, ℕ, Option, Result, length}
 use Rattle.status_call.specs.Inputs.{settings}
 use Rattle.status_index.specs.Entries.{IndexEntry, index_entries}
 use Rattle.status_index.specs.States.{index_of}
