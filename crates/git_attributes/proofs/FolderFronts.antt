@@ -1,7 +1,7 @@
 -- The folders on the way to a path: the next one, and those that aren't on the way to another path.
 use Rattle.std.proofs.Common.{◌≡◌, ℕ, suc, ◌+◌, ◌<◌, ◌≤◌, Bool, true, false, not, cond, ltb, List, [], ◌∷◌, ◌++◌, length, take, drop, position, Some, None, slice_index, get_or, nat_eq, refl, sym, ◌∙◌, ap, arith, append_assoc, if◌then◌else◌}
 use Rattle.std.specs.List.{All, filter, starts_with, position_or_len}
-use Rattle.std.proofs.Math.Seq.{take-add, take-suc, drop-cons}
+use Rattle.std.proofs.Math.Seq.{take-add, take-append_seam, take-suc, drop-cons}
 use Rattle.std.proofs.lemmas.Bool.{ltb-false}
 use Rattle.std.proofs.lemmas.Bool.Decides.{Decides-eqb, nat_tests}
 use Rattle.std.proofs.lemmas.List.{append-nil, drop-drop, get_or-take, get_or_at, length-append, length-drop, length-take-le, take-append-drop}
@@ -12,7 +12,7 @@ use Rattle.std.proofs.lemmas.Slice.Eq.{starts_is}
 use Rattle.status_base.specs.Common.{IsCommon}
 use Rattle.status_base.specs.Paths.{is_slash}
 use Rattle.git_attributes.specs.WorktreeFiles.{folders_from, new_folders}
-use Rattle.git_attributes.specs.FolderSteps.{IsNextFolder}
+use Rattle.git_attributes.specs.FolderSteps.{IsIn, IsNextFolder}
 
 -- bytes without a slash end no folder
 folders_bare : (front xs ys : List ℕ) → All (λ (b : ℕ). is_slash b ≡ false) xs → folders_from front (xs ++ ys) ≡ folders_from (front ++ xs) ys
@@ -163,3 +163,19 @@ new_folders_are one path n common =
     ∙ filter-append (keep one) (folders_from [] (take n path)) (folders_from (take n path) (drop n path))
     ∙ ap (λ (v : List (List ℕ)). v ++ filter (keep one) (folders_from (take n path) (drop n path))) (none_new one [] (take n path) (drop n one) begins)
     ∙ kept_behind one path (drop n path) n common refl
+
+-- a path in a folder of which the path before it begins has no new folders
+pub nothing_new : (one path folder : List ℕ) → starts_with nat_eq one folder ≡ true → IsIn folder path → new_folders one path ≡ []
+nothing_new one path folder begins inside =
+    let n : ℕ = length folder in
+    let front : List ℕ = take n path in
+    let tail : List ℕ = drop n path in
+    let same : path ≡ folder ++ tail = (starts_is {E = nat_eq} Decides-eqb path folder true (sym inside.begins)).0 refl in
+    let own : front ≡ folder = ap (take n) same ∙ take-append_seam folder tail in
+    let parts : path ≡ front ++ tail = sym (take-append-drop n path) in
+    let whole : one ≡ ([] ++ front) ++ drop n one = (starts_is {E = nat_eq} Decides-eqb one folder true (sym begins)).0 refl ∙ ap (λ (v : List ℕ). v ++ drop n one) (sym own) in
+    ap (λ (v : List ℕ). filter (keep one) (folders_from [] v)) parts
+    ∙ ap (filter (keep one)) (folders_both [] front tail)
+    ∙ ap (λ (v : List (List ℕ)). filter (keep one) (folders_from [] front ++ v)) inside.bare
+    ∙ ap (filter (keep one)) (append-nil (folders_from [] front))
+    ∙ none_new one [] front (drop n one) whole

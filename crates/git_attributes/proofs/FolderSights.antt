@@ -1,14 +1,17 @@
 -- One path and one folder of a search, by results that may be returned.
 use Rattle.std.proofs.Common.{◌≡◌, ◌≢◌, ℕ, Bool, false, List, ◌++◌, Option, None, Result, Ok, Err, IfOk, refl, sym, ◌∙◌, ap, subst}
 use Rattle.std.specs.Option.{option_map}
+use Rattle.std.proofs.lemmas.Grind.{merely}
 use Rattle.status_index.specs.declared.fault.Fault.{Fault}
 use Rattle.status_index.specs.declared.fault.Fault.TheVariants as faults
 use Rattle.status_index.specs.declared.stat.Metadata.{Metadata}
+use Rattle.status_index.specs.declared.stat.NodeKind.TheVariants.{File as FileNode}
 use Rattle.status_base.specs.declared.stack.error.StackError.{StackError}
 use Rattle.status_base.specs.CheckAnswers.{IsCheckError}
 use Rattle.status_base.specs.LinkCheck.{LinkCheck, link_check}
+use Rattle.status_base.specs.Looked.{IsLookedAt}
 use Rattle.status_base.specs.Openings.{MayOpen}
-use Rattle.status_base.specs.Sights.{Stats, MayStat, IsCheckSeen}
+use Rattle.status_base.specs.Sights.{Stats, MayStat, IsCheckSeen, IsOpen}
 use Rattle.status_base.proofs.SightLemmas.{answer_here, link_check_with_answer, with_answer, with_answer_allowed}
 use Rattle.git_attributes.specs.Files.{File}
 use Rattle.git_attributes.specs.WorktreeFiles.{Search, nothing, out_of_memory, at_fault, checked_search, node_search, file_path, file_of}
@@ -20,6 +23,10 @@ found_in_memory : (it : Found) → found_search it ≢ out_of_memory
 found_in_memory (FoundFile bytes) = λ memory. cc
 found_in_memory NoFile = λ memory. cc
 found_in_memory NoFolder = λ memory. cc
+
+-- a file that `lstat` found at a path whose directories were checked
+pub file_looked : (may : MayStat) (listed : Bool) (path : List ℕ) (node : Metadata) → IsOpen may path → may path (Ok node) → node.kind ≡ FileNode → IsLookedAt may listed path FileNode
+file_looked may listed path node above here is = merely (record { node = node; met = record { above = above; here = λ _. here }; is = is })
 
 -- a fault at a path
 pub read_fault : {V E : Type 0} (may_stat : Result Metadata Fault → Type 0) (may_open : MayOpen) (f : Fault) (items : V → List ℕ) (result : Result (Option V) E) → may_stat (Err f) → may_open (Err faults.Memory)

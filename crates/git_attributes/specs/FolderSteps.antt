@@ -1,5 +1,6 @@
 -- The steps of a search for attribute files: one path, one folder, some folders.
-use Rattle.std.specs.Prelude.{◌≡◌, ◌≢◌, ◌<◌, ◌≤◌, ℕ, Bool, false, List, [], ◌∷◌, ◌++◌, length, take, drop, Option, Some, None, Result}
+use Rattle.std.specs.Prelude.{◌≡◌, ◌≢◌, ◌<◌, ◌≤◌, ℕ, nat_eq, Bool, true, false, List, [], ◌∷◌, ◌++◌, length, take, drop, Option, Some, None, Result}
+use Rattle.std.specs.List.{starts_with}
 use Rattle.status_index.specs.Content.{Content}
 use Rattle.status_index.specs.declared.fault.Fault.{Fault}
 use Rattle.status_index.specs.declared.stat.Metadata.{Metadata}
@@ -70,3 +71,8 @@ IsNextFolder path at None = folders_from (take at path) (drop at path) ≡ []
 IsNextFolder path at (Some end) =
     (at < end) × (end ≤ length path) × ((before : List ℕ) × (take end path ≡ before ++ 47 ∷ []))
     × (folders_from (take at path) (drop at path) ≡ take end path ∷ folders_from (take end path) (drop end path))
+
+-- A path begins with a folder's path, and no slash follows.
+pub record IsIn (folder path : List ℕ) : Type 0 where
+  pub begins : starts_with nat_eq path folder ≡ true
+  pub bare : folders_from (take (length folder) path) (drop (length folder) path) ≡ []

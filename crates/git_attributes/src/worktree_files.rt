@@ -1,21 +1,24 @@
 //! The attribute files within a worktree.
 
-ghost use Rattle.std.specs.Prelude.{◌≡◌, ◌≤◌, [], ◌∷◌, IfOk, OnOk, None, length, take, drop, map, option_map};
+ghost use Rattle.std.specs.Prelude.{◌≡◌, ◌≤◌, [], ◌∷◌, nat_eq, true, IfOk, OnOk, None, length, take, drop, map, option_map};
+ghost use Rattle.std.specs.List.{starts_with};
 ghost use Rattle.bstr.specs.BStr.{bstr_bytes};
 ghost use Rattle.status_index.specs.States.{index_of};
+ghost use Rattle.status_index.specs.declared.stat.NodeKind.TheVariants.{File};
 ghost use Rattle.status_base.specs.CheckAnswers.{IsCheckError};
 ghost use Rattle.status_base.specs.Common.{IsCommon};
 ghost use Rattle.status_base.specs.LinkCheck.{LinkCheck};
+ghost use Rattle.status_base.specs.Looked.{IsLookedAt};
 ghost use Rattle.status_base.specs.Sights.{IsOpen};
 ghost use Rattle.git_attributes.specs.Views.{file_view};
 ghost use Rattle.git_attributes.specs.WorktreeFiles.{AreFilesSeen, at_fault, file_of, file_path, folders_from, folders_of, found, new_folders, nothing, up_to_long};
-ghost use Rattle.git_attributes.specs.FolderSteps.{AreAdded, IsFolderAdded, IsNextFolder, IsOpenSeen, IsPathSeen, IsReadSeen, IsRefusalOf};
+ghost use Rattle.git_attributes.specs.FolderSteps.{AreAdded, IsFolderAdded, IsIn, IsNextFolder, IsOpenSeen, IsPathSeen, IsReadSeen, IsRefusalOf};
 
 use crate::files::{AttributeFile, AttributeFiles};
 use crate::words::first_at;
 use bstr::{BStr, BString};
 use status_base::stack::{StackError, SymlinkCheck};
-use status_base::worktree::{Fault, NodeKind, Worktree};
+use status_base::worktree::{Fault, GuardedWorktree, NodeKind, Worktree};
 use status_index::{State, read_all};
 use std::alloc::{AllocError, Global};
 use std::sync::atomic::{AtomicBool, Ordering};
@@ -48,7 +51,7 @@ impl<W: Worktree> AttributeFiles for WorktreeAttributeFiles<'_, W> {
     fn find(&self, alloc: Global, index: &State) -> Result<Vec<AttributeFile>, AllocError> {
         let search = FolderSearch {
             alloc,
-            worktree: self.worktree,
+            worktree: GuardedWorktree::new(self.worktree, false),
             index,
             unread: self.unread,
         };
@@ -71,7 +74,7 @@ enum Found {
 #[derive(Drop)]
 struct FolderSearch<'s, W> {
     alloc: Global,
-    worktree: &'s W,
+    worktree: GuardedWorktree<'s, W>,
     index: &'s State,
     unread: &'s AtomicBool,
 }
@@ -79,16 +82,20 @@ struct FolderSearch<'s, W> {
 impl<W: Worktree> FolderSearch<'_, W> {
     /// Returns the files of the worktree's top and of the folders on the way to the entries' paths.
     fn files(&self) -> Result<Vec<AttributeFile>, AllocError>
-        ensures { IfOk result (λ files. AreFilesSeen (W.may_stat self.now.worktree.now) (W.may_open self.now.worktree.now) (folders_of (index_of self.now.index.now)) (map file_view files.items)) }
+        ensures { IfOk result (λ files. AreFilesSeen (W.may_stat self.now.worktree.worktree.now) (W.may_open self.now.worktree.worktree.now) (folders_of (index_of self.now.index.now)) (map file_view files.items)) }
     {
         let mut check = SymlinkCheck::new(self.alloc, BString::new(Vec::new(self.alloc)));
         let mut files = Vec::new(self.alloc);
         self.add_file(b"", &mut check, &mut files)?;
         let mut before: &[u8] = b"";
+        let mut folder: &[u8] = b"";
         let mut rest = self.index.entries();
         'entries: while let [entry, after @ ..] = rest {
             let path = entry.path_in(self.index.path_backing()).as_bytes();
-            self.add_new(before, path, &mut check, &mut files)?;
+            if !is_in(folder, path) {
+                self.add_new(before, path, &mut check, &mut files)?;
+                folder = folder_of(path);
+            }
             before = path;
             rest = after;
         }
@@ -103,9 +110,9 @@ impl<W: Worktree> FolderSearch<'_, W> {
         check: &mut SymlinkCheck,
         files: &mut Vec<AttributeFile>,
     ) -> Result<(), AllocError>
-        requires { IsOpen (W.may_stat self.now.worktree.now) check.old.path }
-        ensures opened { IsOpen (W.may_stat self.now.worktree.now) check.new.path }
-        ensures added { OnOk result (AreAdded (W.may_stat self.now.worktree.now) (W.may_open self.now.worktree.now) (up_to_long (new_folders before.now path.now)) (map file_view files.old.items) (map file_view files.new.items)) }
+        requires { IsOpen (W.may_stat self.now.worktree.worktree.now) check.old.path }
+        ensures opened { IsOpen (W.may_stat self.now.worktree.worktree.now) check.new.path }
+        ensures added { OnOk result (AreAdded (W.may_stat self.now.worktree.worktree.now) (W.may_open self.now.worktree.worktree.now) (up_to_long (new_folders before.now path.now)) (map file_view files.old.items) (map file_view files.new.items)) }
     {
         self.add_folders(path, common_front(before, path), check, files)
     }
@@ -120,9 +127,9 @@ impl<W: Worktree> FolderSearch<'_, W> {
         files: &mut Vec<AttributeFile>,
     ) -> Result<(), AllocError>
         requires within { from ≤ length path.now }
-        requires opened { IsOpen (W.may_stat self.now.worktree.now) check.old.path }
-        ensures opened { IsOpen (W.may_stat self.now.worktree.now) check.new.path }
-        ensures added { OnOk result (AreAdded (W.may_stat self.now.worktree.now) (W.may_open self.now.worktree.now) (up_to_long (folders_from (take from path.now) (drop from path.now))) (map file_view files.old.items) (map file_view files.new.items)) }
+        requires opened { IsOpen (W.may_stat self.now.worktree.worktree.now) check.old.path }
+        ensures opened { IsOpen (W.may_stat self.now.worktree.worktree.now) check.new.path }
+        ensures added { OnOk result (AreAdded (W.may_stat self.now.worktree.worktree.now) (W.may_open self.now.worktree.worktree.now) (up_to_long (folders_from (take from path.now) (drop from path.now))) (map file_view files.old.items) (map file_view files.new.items)) }
     {
         let mut at = from;
         'folders: while let Some(end) = folder_end(path, at) {
@@ -144,9 +151,9 @@ impl<W: Worktree> FolderSearch<'_, W> {
         check: &mut SymlinkCheck,
         files: &mut Vec<AttributeFile>,
     ) -> Result<bool, AllocError>
-        requires { IsOpen (W.may_stat self.now.worktree.now) check.old.path }
-        ensures opened { IsOpen (W.may_stat self.now.worktree.now) check.new.path }
-        ensures added { IfOk result (λ goes_on. IsFolderAdded (W.may_stat self.now.worktree.now) (W.may_open self.now.worktree.now) folder.now goes_on (map file_view files.old.items) (map file_view files.new.items)) }
+        requires { IsOpen (W.may_stat self.now.worktree.worktree.now) check.old.path }
+        ensures opened { IsOpen (W.may_stat self.now.worktree.worktree.now) check.new.path }
+        ensures added { IfOk result (λ goes_on. IsFolderAdded (W.may_stat self.now.worktree.worktree.now) (W.may_open self.now.worktree.worktree.now) folder.now goes_on (map file_view files.old.items) (map file_view files.new.items)) }
     {
         let path = self.path_in(folder)?;
         let path = BStr::new(path.as_slice());
@@ -174,12 +181,12 @@ impl<W: Worktree> FolderSearch<'_, W> {
 
     /// Returns what is at the path of an attribute file.
     fn find_at(&self, path: BStr<'_>, check: &mut SymlinkCheck) -> Result<Found, AllocError>
-        requires { IsOpen (W.may_stat self.now.worktree.now) check.old.path }
-        ensures opened { IsOpen (W.may_stat self.now.worktree.now) check.new.path }
-        ensures seen { IfOk result (IsPathSeen (W.may_stat self.now.worktree.now) (W.may_open self.now.worktree.now) (bstr_bytes path.entry)) }
+        requires { IsOpen (W.may_stat self.now.worktree.worktree.now) check.old.path }
+        ensures opened { IsOpen (W.may_stat self.now.worktree.worktree.now) check.new.path }
+        ensures seen { IfOk result (IsPathSeen (W.may_stat self.now.worktree.worktree.now) (W.may_open self.now.worktree.worktree.now) (bstr_bytes path.entry)) }
     {
-        match check.verified_path(self.worktree, path) {
-            Ok(_) => match self.read_file(path)? {
+        match self.worktree.verify(check, path) {
+            Ok(()) => match self.read_file(path)? {
                 Some(bytes) => Ok(Found::File(bytes)),
                 None => Ok(Found::NoFile),
             },
@@ -190,7 +197,8 @@ impl<W: Worktree> FolderSearch<'_, W> {
     /// Returns the bytes of the file at a path. None if there is none that can be read. Links aren't opened, since they may lead
     /// to a device, and neither are files that are too large.
     fn read_file(&self, path: BStr<'_>) -> Result<Option<Vec<u8>>, AllocError>
-        ensures { IfOk result (λ read. IsReadSeen (W.may_stat self.now.worktree.now (bstr_bytes path.entry)) (W.may_open self.now.worktree.now (bstr_bytes path.entry)) (option_map (λ bytes. bytes.items) read)) }
+        requires { IsOpen (W.may_stat self.now.worktree.worktree.now) (bstr_bytes path) }
+        ensures { IfOk result (λ read. IsReadSeen (W.may_stat self.now.worktree.worktree.now (bstr_bytes path.entry)) (W.may_open self.now.worktree.worktree.now (bstr_bytes path.entry)) (option_map (λ bytes. bytes.items) read)) }
     {
         match self.worktree.lstat(path) {
             Ok(node) if node.kind == NodeKind::File && node.len < ATTRIBUTES_LIMIT as u64 => {
@@ -248,13 +256,14 @@ fn found_barred(error: StackError<'_>) -> Result<Found, AllocError>
     }
 }
 
-/// Opens the file at a path, and returns its bytes. None if it can't be read.
+/// Opens the file that `lstat` found at a path, and returns its bytes. None if it can't be read.
 fn read_open<W: Worktree>(
     alloc: Global,
-    worktree: &W,
+    worktree: GuardedWorktree<'_, W>,
     path: BStr<'_>,
 ) -> Result<Option<Vec<u8>>, AllocError>
-    ensures { IfOk result (λ read. IsOpenSeen (W.may_open worktree.now (bstr_bytes path.entry)) (option_map (λ bytes. bytes.items) read)) }
+    requires { IsLookedAt (W.may_stat worktree.worktree.now) worktree.fscache (bstr_bytes path) File }
+    ensures { IfOk result (λ read. IsOpenSeen (W.may_open worktree.entry.worktree.now (bstr_bytes path.entry)) (option_map (λ bytes. bytes.items) read)) }
 {
     let mut file = match worktree.open(path) {
         Ok(file) => file,
@@ -285,6 +294,23 @@ fn folder_end(path: &[u8], at: usize) -> Option<usize>
     match first_at(b'/', &path[at..]) {
         Some(slash) => Some(at + slash + 1),
         None => None,
+    }
+}
+
+/// Returns whether a path is in a folder itself, and not in one below.
+fn is_in(folder: &[u8], path: &[u8]) -> bool
+    ensures { result ≡ true → IsIn folder.now path.now }
+{
+    path.starts_with(folder) && folder_end(path, folder.len()).is_none()
+}
+
+/// Returns the folder of a path, with the slash after it.
+fn folder_of(path: &[u8]) -> &[u8]
+    ensures { starts_with nat_eq path.now result.now ≡ true }
+{
+    match path.iter().rposition(|byte| *byte == b'/') {
+        Some(slash) => &path[..slash + 1],
+        None => b"",
     }
 }
 

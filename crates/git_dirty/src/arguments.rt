@@ -55,75 +55,120 @@ pub fn request_of<'a>(alloc: Global, matches: &ArgMatches<'a>) -> Result<Request
 /// # Errors
 /// Out of memory.
 pub fn command_line<'a>(alloc: Global) -> Result<Command<'a>, AllocError> {
-    let folder = Arg::new(alloc, "folder")
-        .short('C')
-        .value_name("DIR")
-        .help("Work in DIR instead of the working folder")
-        .action(ArgAction::Set);
-    let threads = Arg::new(alloc, "threads")
-        .long("threads")
-        .value_name("N")
-        .help("Use at most N threads (usually 4)")
-        .value_parser(value_parser!(usize));
-    let paths = Arg::new(alloc, "paths")
-        .value_name("PATHS")
-        .help("Compare only these files, and all files below these folders")
-        .num_args(0..)
-        .action(ArgAction::Append);
-    Command::new(alloc, "git-dirty")
+    let command = Command::new(alloc, "git-dirty")
         .bin_name("git dirty")?
         .version(VERSION)
         .about("Lists the tracked files of a git worktree that differ from the index")
         .after_help(EXAMPLES)
-        .arg(folder)?
+        .arg(folder(alloc))?
         .arg(flag(alloc, "zero", "End lines with a NUL, and don't quote paths").short('z'))?
-        .arg(
-            flag(
-                alloc,
-                "quiet",
-                "Print no line, and stop soon after the first difference",
-            )
-            .short('q')
-            .long("quiet"),
-        )?
-        .arg(flag(
-            alloc,
-            "refresh",
-            "Store the new times of unchanged files in the index",
-        )
-        .long("refresh"))?
-        .arg(
-            flag(
-                alloc,
-                "explain",
-                "Say why a path is listed, or isn't: with PATHS each of theirs",
-            )
-            .long("explain")
-            .conflicts_with("zero")?
-            .conflicts_with("quiet")?
-            .conflicts_with("refresh")?
-            .conflicts_with("stats")?,
-        )?
-        .arg(
-            flag(
-                alloc,
-                "json",
-                "With --explain, print an object of JSON for each path",
-            )
-            .long("json")
-            .requires_arg("explain")?,
-        )?
-        .arg(threads)?
-        .arg(flag(
-            alloc,
-            "stats",
-            "Print on standard error how much was compared",
-        )
-        .long("stats"))?
+        .arg(quiet(alloc))?
+        .arg(refresh(alloc))?
+        .arg(explain(alloc)?)?
+        .arg(json(alloc)?)?
+        .arg(threads(alloc))?
+        .arg(stats(alloc))?;
+    with_help(alloc, command)?.arg(paths(alloc))
+}
+
+/// Returns the option of the folder to work in.
+fn folder<'a>(alloc: Global) -> Arg<'a> {
+    Arg::new(alloc, "folder")
+        .short('C')
+        .value_name("DIR")
+        .help("Work in DIR instead of the working folder")
+        .action(ArgAction::Set)
+}
+
+/// Returns the option of the number of threads.
+fn threads<'a>(alloc: Global) -> Arg<'a> {
+    Arg::new(alloc, "threads")
+        .long("threads")
+        .value_name("N")
+        .help("Use at most N threads (usually 4)")
+        .value_parser(value_parser!(usize))
+}
+
+/// Returns the paths to compare.
+fn paths<'a>(alloc: Global) -> Arg<'a> {
+    Arg::new(alloc, "paths")
+        .value_name("PATHS")
+        .help("Compare only these files, and all files below these folders")
+        .num_args(0..)
+        .action(ArgAction::Append)
+}
+
+/// Returns the flag that leaves the exit status alone.
+fn quiet<'a>(alloc: Global) -> Arg<'a> {
+    flag(
+        alloc,
+        "quiet",
+        "Print no line, and stop soon after the first difference",
+    )
+    .short('q')
+    .long("quiet")
+}
+
+/// Returns the flag that stores times in the index.
+fn refresh<'a>(alloc: Global) -> Arg<'a> {
+    flag(
+        alloc,
+        "refresh",
+        "Store the new times of unchanged files in the index",
+    )
+    .long("refresh")
+}
+
+/// Returns the flag that counts what was compared.
+fn stats<'a>(alloc: Global) -> Arg<'a> {
+    flag(
+        alloc,
+        "stats",
+        "Print on standard error how much was compared",
+    )
+    .long("stats")
+}
+
+/// Returns the flag that explains paths.
+///
+/// # Errors
+/// Out of memory.
+fn explain<'a>(alloc: Global) -> Result<Arg<'a>, AllocError> {
+    flag(
+        alloc,
+        "explain",
+        "Say why a path is listed, or isn't: with PATHS each of theirs",
+    )
+    .long("explain")
+    .conflicts_with("zero")?
+    .conflicts_with("quiet")?
+    .conflicts_with("refresh")?
+    .conflicts_with("stats")
+}
+
+/// Returns the flag for explanations in JSON.
+///
+/// # Errors
+/// Out of memory.
+fn json<'a>(alloc: Global) -> Result<Arg<'a>, AllocError> {
+    flag(
+        alloc,
+        "json",
+        "With --explain, print an object of JSON for each path",
+    )
+    .long("json")
+    .requires_arg("explain")
+}
+
+/// Returns the parser with its flags for help.
+///
+/// # Errors
+/// Out of memory.
+fn with_help<'a>(alloc: Global, command: Command<'a>) -> Result<Command<'a>, AllocError> {
+    command
         .disable_help_flag(true)
         .arg(help(alloc, "help").short('h'))?
-        .arg(help(alloc, "long-help").long("help").hide(true))?
-        .arg(paths)
+        .arg(help(alloc, "long-help").long("help").hide(true))
 }
 
 /// Returns a flag that prints the help. With `git dirty --help` git itself searches for a manual page, so that `-h` is the one

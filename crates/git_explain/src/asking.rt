@@ -1,45 +1,51 @@
 //! The calls of a worktree and a submodule for one entry, in the order of a status.
 
-ghost use Rattle.std.specs.Prelude.{IfOk, ℕ, List, Option, Result};
+ghost use Rattle.std.specs.Prelude.{◌≡◌, false, IfOk, IfSome, None, ℕ, List, Option, Result};
 ghost use Rattle.bstr.specs.BStr.{bstr_bytes};
+ghost use Rattle.status_base.specs.LinkCheck.{barrier_of};
+ghost use Rattle.status_base.specs.Looked.{IsLookedAt, IsMet};
 ghost use Rattle.status_index.specs.Entries.{IndexEntry, entry_at};
+ghost use Rattle.status_index.specs.declared.stat.NodeKind.TheVariants.{File, Link};
 ghost use Rattle.git_explain.specs.Allowed.{AreCallsAllowed, IsFileAllowed, IsLinkAllowed, IsSubmoduleAllowed};
 
 use crate::sight::{LstatCall, Reading, Sight};
 use bstr::BStr;
 use status_base::worktree::{
-    ByteText, Fault, Metadata, NodeKind, SubmoduleFault, SubmoduleStatus, Worktree, read_all,
+    ByteText, Fault, GuardedWorktree, Metadata, NodeKind, SubmoduleFault, SubmoduleStatus,
+    Worktree, read_all,
 };
 use status_index::Entry;
 use std::alloc::{AllocError, Global};
 
 /// Calls `lstat` for each directory above a path, up to the first that is a link or has a fault. If there is none, calls it for
-/// the path too.
+/// the path too, and returns the node there.
 ///
 /// # Errors
 /// Out of memory.
 pub(crate) fn ask_along<W: Worktree>(
     alloc: Global,
-    worktree: &W,
+    worktree: GuardedWorktree<'_, W>,
     path: &[u8],
     calls: &mut Vec<LstatCall>,
-) -> Result<(), AllocError>
-    ensures { AreCallsAllowed (W.may_stat worktree.now) calls.old.items → AreCallsAllowed (W.may_stat worktree.now) calls.new.items }
+) -> Result<Option<Metadata>, AllocError>
+    ensures met { IfOk result (λ node. IfSome node (IsMet (W.may_stat worktree.entry.worktree.now) worktree.entry.fscache path.now)) }
+    ensures calls { AreCallsAllowed (W.may_stat worktree.entry.worktree.now) calls.old.items → AreCallsAllowed (W.may_stat worktree.entry.worktree.now) calls.new.items }
 {
     for at in 0..path.len() {
         if path[at] != b'/' {
             continue;
         }
         if is_barrier(ask_lstat(alloc, worktree, &path[..at], calls)?) {
-            return Ok(());
+            return Ok(None);
         }
     }
-    let _ = ask_lstat(alloc, worktree, path, calls)?;
-    Ok(())
+    Ok(ask_lstat(alloc, worktree, path, calls)?.ok())
 }
 
 /// Returns whether no path may lead through a directory: it is a link, or has a fault.
-fn is_barrier(found: Result<Metadata, Fault>) -> bool {
+fn is_barrier(found: Result<Metadata, Fault>) -> bool
+    ensures { result ≡ false → barrier_of found ≡ None }
+{
     match found {
         Ok(node) => node.kind == NodeKind::Link,
         Err(_) => true,
@@ -52,11 +58,12 @@ fn is_barrier(found: Result<Metadata, Fault>) -> bool {
 /// Out of memory.
 fn ask_lstat<W: Worktree>(
     alloc: Global,
-    worktree: &W,
+    worktree: GuardedWorktree<'_, W>,
     path: &[u8],
     calls: &mut Vec<LstatCall>,
 ) -> Result<Result<Metadata, Fault>, AllocError>
-    ensures { AreCallsAllowed (W.may_stat worktree.now) calls.old.items → AreCallsAllowed (W.may_stat worktree.now) calls.new.items }
+    ensures found { IfOk result (W.may_stat worktree.entry.worktree.now path.now) }
+    ensures calls { AreCallsAllowed (W.may_stat worktree.entry.worktree.now) calls.old.items → AreCallsAllowed (W.may_stat worktree.entry.worktree.now) calls.new.items }
 {
     let found = worktree.lstat(BStr::new(path));
     let path = Vec::from_slice(alloc, path)?;
@@ -64,16 +71,17 @@ fn ask_lstat<W: Worktree>(
     Ok(found)
 }
 
-/// Opens a file and reads it to its end, or to a fault.
+/// Opens a file that `lstat` found, and reads it to its end, or to a fault.
 ///
 /// # Errors
 /// Out of memory.
 pub(crate) fn read_file<W: Worktree>(
     alloc: Global,
-    worktree: &W,
+    worktree: GuardedWorktree<'_, W>,
     path: BStr<'_>,
 ) -> Result<Result<Reading, Fault>, AllocError>
-    ensures { IfOk result (IsFileAllowed (W.may_open worktree.now (bstr_bytes path.entry))) }
+    requires { IsLookedAt (W.may_stat worktree.worktree.now) worktree.fscache (bstr_bytes path) File }
+    ensures { IfOk result (IsFileAllowed (W.may_open worktree.entry.worktree.now (bstr_bytes path.entry))) }
 {
     let mut file = match worktree.open(path) {
         Ok(file) => file,
@@ -91,16 +99,17 @@ pub(crate) fn read_file<W: Worktree>(
     }
 }
 
-/// Reads the target of a link.
+/// Reads the target of a link that `lstat` found.
 ///
 /// # Errors
 /// Out of memory.
 pub(crate) fn read_link<W: Worktree>(
     alloc: Global,
-    worktree: &W,
+    worktree: GuardedWorktree<'_, W>,
     path: BStr<'_>,
 ) -> Result<Result<Vec<u8>, Fault>, AllocError>
-    ensures { IfOk result (IsLinkAllowed (W.may_link worktree.now (bstr_bytes path.entry))) }
+    requires { IsLookedAt (W.may_stat worktree.worktree.now) worktree.fscache (bstr_bytes path) Link }
+    ensures { IfOk result (IsLinkAllowed (W.may_link worktree.entry.worktree.now (bstr_bytes path.entry))) }
 {
     let mut target = Vec::new(alloc);
     match worktree.read_link(path, &mut target) {

@@ -1,8 +1,9 @@
 //! One path: the calls that are made for it, and its status by their results.
 
-ghost use Rattle.std.specs.Prelude.{◌≡◌, ℕ, List, Option, Result, IfOk};
+ghost use Rattle.std.specs.Prelude.{◌≡◌, ℕ, List, Option, Result, IfOk, IfSome};
 ghost use Rattle.bstr.specs.BStr.{bstr_bytes};
 ghost use Rattle.status_index.specs.Entries.{IndexEntry, entry_at};
+ghost use Rattle.status_base.specs.Looked.{IsMet};
 
 use crate::asking::{ask_along, ask_submodule, read_file, read_link};
 use crate::explained::Explained;
@@ -11,7 +12,9 @@ use crate::recorded::{RecordedSubmodule, RecordedWorktree};
 use crate::sight::Sight;
 use bstr::BStr;
 use git_attributes::LineEnds;
-use status_base::worktree::{MemoryObjects, NoLister, NodeKind, SubmoduleStatus, Worktree};
+use status_base::worktree::{
+    GuardedWorktree, MemoryObjects, Metadata, NoLister, NodeKind, SubmoduleStatus, Worktree,
+};
 use status_call::index_as_worktree::traits::FastEq;
 use status_call::index_as_worktree::{
     Context, Error, Options, Outcome, Recorder, index_as_worktree_without_threads,
@@ -27,7 +30,7 @@ pub struct Explainer<'a, 'b, 'files, 'index, W, S> {
     /// The index.
     pub index: &'index State,
     /// The worktree.
-    pub worktree: &'a W,
+    pub worktree: GuardedWorktree<'a, W>,
     /// The submodules.
     pub submodules: S,
     /// How line ends are converted.
@@ -62,8 +65,8 @@ impl<'a, 'b, 'files, 'index, W: Worktree, S: SubmoduleStatus> Explainer<
     ) -> Result<Explained<'index>, AllocError>
         ensures status { IfOk result (IsStatusBySight (settings self.old.options self.old.index.now) self.old.filter self.old.index.now) }
         ensures whole { IfOk result (λ x. IsWhole x.answer) }
-        ensures allowed { IfOk result (λ x. let p = bstr_bytes path.entry in IsSightAllowed (W.may_stat self.old.worktree.now) (W.may_open self.old.worktree.now p)
-            (W.may_link self.old.worktree.now p) (S.may_report self.old.submodules (entry_at p entry.now)) x.sight) }
+        ensures allowed { IfOk result (λ x. let p = bstr_bytes path.entry in IsSightAllowed (W.may_stat self.old.worktree.worktree.now) (W.may_open self.old.worktree.worktree.now p)
+            (W.may_link self.old.worktree.worktree.now p) (S.may_report self.old.submodules (entry_at p entry.now)) x.sight) }
         ensures entry { IfOk result (λ x. (x.entry.now ≡ entry.now) × (bstr_bytes x.path ≡ bstr_bytes path.entry)) }
         ensures only { self.new ≡ record self.old { submodules = self.new.submodules } }
         ensures within { (e : IndexEntry) (report : Result (Option S.Output) (List ℕ)) → S.may_report self.new.submodules e report → S.may_report self.old.submodules e report }
@@ -72,18 +75,18 @@ impl<'a, 'b, 'files, 'index, W: Worktree, S: SubmoduleStatus> Explainer<
         if !first.is_unasked() {
             return Ok(first);
         }
-        let sight = self.ask(entry, path, first.sight)?;
+        let (sight, met) = self.ask(entry, path, first.sight)?;
         let second = self.by_sight(entry, path, sight)?;
         if !second.is_unasked() {
             return Ok(second);
         }
-        let sight = self.read(path, second.sight)?;
+        let sight = self.read(path, met, second.sight)?;
         let third = self.by_sight(entry, path, sight)?;
         third.with_id(self.alloc, &self.filter)
     }
 
-    /// Calls `lstat` for the directories above a path and for the path. If that is a directory at a submodule's entry, asks for
-    /// the submodule's status.
+    /// Calls `lstat` for the directories above a path and for the path, and returns the node that was met there. If that is a
+    /// directory at a submodule's entry, asks for the submodule's status.
     ///
     /// # Errors
     /// Out of memory.
@@ -92,39 +95,54 @@ impl<'a, 'b, 'files, 'index, W: Worktree, S: SubmoduleStatus> Explainer<
         entry: &'index Entry,
         path: BStr<'index>,
         mut sight: Sight,
-    ) -> Result<Sight, AllocError>
-        ensures allowed { let p = bstr_bytes path.entry in let may = IsSightAllowed (W.may_stat self.old.worktree.now) (W.may_open self.old.worktree.now p)
-            (W.may_link self.old.worktree.now p) (S.may_report self.old.submodules (entry_at p entry.now)) in may sight → IfOk result may }
+    ) -> Result<(Sight, Option<Metadata>), AllocError>
+        ensures met { IfOk result (λ x. IfSome x.1 (IsMet (W.may_stat self.old.worktree.worktree.now) self.old.worktree.fscache (bstr_bytes path.entry))) }
+        ensures allowed { let p = bstr_bytes path.entry in let may = IsSightAllowed (W.may_stat self.old.worktree.worktree.now) (W.may_open self.old.worktree.worktree.now p)
+            (W.may_link self.old.worktree.worktree.now p) (S.may_report self.old.submodules (entry_at p entry.now)) in may sight → IfOk result (λ x. may x.0) }
         ensures only { self.new ≡ record self.old { submodules = self.new.submodules } }
         ensures within { (e : IndexEntry) (report : Result (Option S.Output) (List ℕ)) → S.may_report self.new.submodules e report → S.may_report self.old.submodules e report }
     {
-        ask_along(self.alloc, self.worktree, path.as_bytes(), &mut sight.calls)?;
+        let met = ask_along(self.alloc, self.worktree, path.as_bytes(), &mut sight.calls)?;
         if !entry.mode.is_submodule() {
-            return Ok(sight);
+            return Ok((sight, met));
         }
-        if !has_directory(&sight, path) {
-            return Ok(sight);
+        if !is_directory(met) {
+            return Ok((sight, met));
         }
         let report = ask_submodule(&mut self.submodules, entry, path)?;
         sight.submodule = Some(report);
-        Ok(sight)
+        Ok((sight, met))
     }
 
-    /// Reads the link or the file at a path.
+    /// Reads the link or the file that was met at a path. Nothing else is opened.
     ///
     /// # Errors
     /// Out of memory.
-    fn read(&self, path: BStr<'_>, mut sight: Sight) -> Result<Sight, AllocError>
-        ensures { IfOk result (IsReadFurther (W.may_open self.now.worktree.now (bstr_bytes path.entry)) (W.may_link self.now.worktree.now (bstr_bytes path.entry)) sight) }
+    fn read(
+        &self,
+        path: BStr<'_>,
+        met: Option<Metadata>,
+        mut sight: Sight,
+    ) -> Result<Sight, AllocError>
+        requires { IfSome met (IsMet (W.may_stat self.now.worktree.worktree.now) self.now.worktree.fscache (bstr_bytes path)) }
+        ensures { IfOk result (IsReadFurther (W.may_open self.now.worktree.worktree.now (bstr_bytes path.entry)) (W.may_link self.now.worktree.worktree.now (bstr_bytes path.entry)) sight) }
     {
-        if has_link(&sight, path) {
-            let target = read_link(self.alloc, self.worktree, path)?;
-            sight.link = Some(target);
+        let Some(node) = met else {
             return Ok(sight);
+        };
+        match node.kind {
+            NodeKind::Link => {
+                let target = read_link(self.alloc, self.worktree, path)?;
+                sight.link = Some(target);
+                Ok(sight)
+            }
+            NodeKind::File => {
+                let file = read_file(self.alloc, self.worktree, path)?;
+                sight.file = Some(file);
+                Ok(sight)
+            }
+            NodeKind::Directory | NodeKind::Other => Ok(sight),
         }
-        let file = read_file(self.alloc, self.worktree, path)?;
-        sight.file = Some(file);
-        Ok(sight)
     }
 
     /// Returns the status of a path by its sight.
@@ -216,12 +234,7 @@ impl<'a, 'b, 'files, 'index, W: Worktree, S: SubmoduleStatus> Explainer<
     }
 }
 
-/// Returns whether `lstat` found a directory at a path.
-fn has_directory(sight: &Sight, path: BStr<'_>) -> bool {
-    matches!(sight.result_at(path.as_bytes()), Ok(node) if node.kind == NodeKind::Directory)
-}
-
-/// Returns whether `lstat` found a link at a path.
-fn has_link(sight: &Sight, path: BStr<'_>) -> bool {
-    matches!(sight.result_at(path.as_bytes()), Ok(node) if node.kind == NodeKind::Link)
+/// Returns whether a directory was met.
+fn is_directory(met: Option<Metadata>) -> bool {
+    matches!(met, Some(node) if node.kind == NodeKind::Directory)
 }

@@ -1,7 +1,8 @@
 //! Explanations as JSON: one object a line for each path.
 
+use crate::comparison::Compared;
 use crate::explained::Explained;
-use crate::reason::{Compared, reasons, status_word};
+use crate::reason::{reasons, status_word};
 use crate::sight::{LstatCall, Reading, Sight};
 use crate::words::{IdText, PathText};
 use serde_json::{Value, json};

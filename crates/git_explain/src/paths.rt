@@ -6,15 +6,15 @@ ghost use Rattle.bstr.specs.BStr.{bstr_bytes};
 ghost use Rattle.status_index.specs.Mode.{is_submodule};
 ghost use Rattle.git_explain.specs.Explained.{AreExplained};
 
+use crate::comparison::Compared;
 use crate::explained::Explained;
 use crate::explainer::Explainer;
 use crate::json::{push_json, push_other_json};
-use crate::reason::Compared;
 use crate::text::{push_other, push_text};
 use bstr::BStr;
 use git_attributes::{AttributeFiles, LineEnds, attributes_of};
 use git_status::{Asked, Question};
-use status_base::worktree::{Pathspec, SubmoduleStatus, Worktree};
+use status_base::worktree::{GuardedWorktree, Pathspec, SubmoduleStatus, Worktree};
 use status_index::{Entry, State};
 use std::alloc::{AllocError, Global};
 use std::str;
@@ -67,7 +67,7 @@ pub(crate) fn explain_each<'a, W: Worktree, S: SubmoduleStatus, P: Pathspec, A: 
     let mut explainer = Explainer {
         alloc,
         index,
-        worktree,
+        worktree: GuardedWorktree::new(worktree, false),
         submodules,
         filter: LineEnds {
             attributes: &attributes,
@@ -104,7 +104,7 @@ impl Explanations {
         paths: &P,
         wanted: Wanted<'_>,
     ) -> Result<(), AllocError>
-        ensures { let x = explainer.old in OnOk result (Adds (W.may_stat x.worktree.now) (W.may_open x.worktree.now) (W.may_link x.worktree.now) (S.may_report x.submodules)
+        ensures { let x = explainer.old in OnOk result (Adds (W.may_stat x.worktree.worktree.now) (W.may_open x.worktree.worktree.now) (W.may_link x.worktree.worktree.now) (S.may_report x.submodules)
             (settings x.options x.index.now) x.filter x.index.now (first_entries (P.included paths.now) [] (index_of x.index.now)) self.old self.new) }
     {
         let index = explainer.index;
@@ -132,7 +132,7 @@ impl Explanations {
         path: BStr<'index>,
         wanted: Wanted<'_>,
     ) -> Result<(), AllocError>
-        ensures adds { let x = explainer.old in OnOk result (Adds (W.may_stat x.worktree.now) (W.may_open x.worktree.now) (W.may_link x.worktree.now) (S.may_report x.submodules)
+        ensures adds { let x = explainer.old in OnOk result (Adds (W.may_stat x.worktree.worktree.now) (W.may_open x.worktree.worktree.now) (W.may_link x.worktree.worktree.now) (S.may_report x.submodules)
             (settings x.options x.index.now) x.filter x.index.now (if selected then entry_at (bstr_bytes path.entry) entry.now ∷ [] else []) self.old self.new) }
         ensures only { explainer.new ≡ record explainer.old { submodules = explainer.new.submodules } }
         ensures within { (e : IndexEntry) (report : Result (Option S.Output) (List ℕ)) → S.may_report explainer.new.submodules e report → S.may_report explainer.old.submodules e report }

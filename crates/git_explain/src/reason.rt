@@ -1,21 +1,14 @@
 //! The rule that decided the status of a path, in words.
 
+use crate::comparison::{Compared, push_compared};
 use crate::explained::Explained;
 use crate::sight::LstatCall;
-use crate::words::{EntryText, IdText, PathText, mode_words};
+use crate::words::{PathText, mode_words};
 use bitflags::Flags as _;
 use status_base::worktree::{Metadata, NodeKind};
-use status_call::index_as_worktree::{Change, Conflict, EntryStatus, Error, Options};
-use status_index::{Flags, Moment, ObjectId, Stat};
+use status_call::index_as_worktree::{Change, Conflict, EntryStatus, Error};
+use status_index::{Flags, Mode};
 use std::alloc::{AllocError, Global};
-
-/// How entries are compared.
-#[derive(Clone, Copy)]
-pub(crate) struct Compared<'o> {
-    pub(crate) options: &'o Options,
-    /// When the index file was last changed.
-    pub(crate) timestamp: Moment,
-}
 
 /// Returns the word for the status of a path.
 pub(crate) fn status_word(explained: &Explained<'_>) -> &'static str {
@@ -47,71 +40,124 @@ pub(crate) fn reasons(
 ) -> Result<Vec<String>, AllocError> {
     let mut words = Vec::new(alloc);
     match &explained.answer {
-        Err(Error::Io(fault)) => {
-            push(&mut words, format!(in alloc; "it can't be read: {fault}"))?;
-            return Ok(words);
-        }
-        Err(error) => {
-            push(&mut words, format!(in alloc; "{error}"))?;
-            return Ok(words);
-        }
-        Ok(_) => {}
-    }
-    if explained.is_flagged() {
-        let flag = flag_words(explained.entry.flags);
-        push(
-            &mut words,
-            format!(in alloc; "its entry is marked as {flag}, so its file isn't checked"),
-        )?;
-        return Ok(words);
-    }
-    match explained.status() {
-        Some(EntryStatus::Conflict { summary, .. }) => {
-            let sides = conflict_words(*summary);
-            push(
-                &mut words,
-                format!(in alloc;
-                    "the index has a conflict ({sides}), so the worktree isn't asked"
-                ),
-            )?;
-        }
-        Some(EntryStatus::IntentToAdd) => push(
-            &mut words,
-            format!(in alloc;
-                "its entry was made by git add -N, so its content isn't in the index yet"
-            ),
-        )?,
-        Some(EntryStatus::Change(Change::Removed)) => push_removed(alloc, &mut words, explained)?,
-        Some(EntryStatus::Change(Change::TypeChange { worktree_mode })) => {
-            let (old, new) = (mode_words(explained.entry.mode), mode_words(*worktree_mode));
-            push(
-                &mut words,
-                format!(in alloc; "the index has {old}, and in its place is {new}"),
-            )?;
-        }
-        Some(EntryStatus::Change(Change::SubmoduleModification(()))) => push(
-            &mut words,
-            format!(in alloc; "the submodule's HEAD is another commit than that of the index"),
-        )?,
-        Some(EntryStatus::Change(Change::Modification { .. }) | EntryStatus::NeedsUpdate(_)) => {
-            push_compared(alloc, &mut words, explained, compared)?;
-        }
-        None if explained.entry.mode.is_submodule() => push(
-            &mut words,
-            format!(in alloc; "the submodule's HEAD is the commit of the index, or it has none"),
-        )?,
-        None => push(
-            &mut words,
-            format!(in alloc;
-                "the index has the same size and times, and is newer than the file, so it isn't read"
-            ),
-        )?,
+        Err(error) => push_error(alloc, &mut words, error)?,
+        Ok(_) if explained.is_flagged() => push_flag(alloc, &mut words, explained.entry.flags)?,
+        Ok(_) => push_status(alloc, &mut words, explained, compared)?,
     }
     Ok(words)
 }
 
+/// Adds why a path's status failed.
+fn push_error(alloc: Global, words: &mut Vec<String>, error: &Error) -> Result<(), AllocError> {
+    match error {
+        Error::Io(fault) => push(words, format!(in alloc; "it can't be read: {fault}")),
+        _ => push(words, format!(in alloc; "{error}")),
+    }
+}
+
+/// Adds the flag that keeps an entry from being compared.
+fn push_flag(alloc: Global, words: &mut Vec<String>, flags: Flags) -> Result<(), AllocError> {
+    let flag = flag_words(flags);
+    push(
+        words,
+        format!(in alloc; "its entry is marked as {flag}, so its file isn't checked"),
+    )
+}
+
+/// Adds why a path has the status that was reported of it, or why none was.
+fn push_status(
+    alloc: Global,
+    words: &mut Vec<String>,
+    explained: &Explained<'_>,
+    compared: Compared<'_>,
+) -> Result<(), AllocError> {
+    let mode = explained.entry.mode;
+    match explained.status() {
+        Some(EntryStatus::Conflict { summary, .. }) => push_conflict(alloc, words, *summary),
+        Some(EntryStatus::IntentToAdd) => push_intended(alloc, words),
+        Some(EntryStatus::Change(Change::Removed)) => push_removed(alloc, words, explained),
+        Some(EntryStatus::Change(Change::TypeChange { worktree_mode })) => {
+            push_type(alloc, words, mode, *worktree_mode)
+        }
+        Some(EntryStatus::Change(Change::SubmoduleModification(()))) => {
+            push_other_commit(alloc, words)
+        }
+        Some(EntryStatus::Change(Change::Modification { .. }) | EntryStatus::NeedsUpdate(_)) => {
+            push_compared(alloc, words, explained, compared)
+        }
+        None if mode.is_submodule() => push_same_commit(alloc, words),
+        None => push_trusted(alloc, words),
+    }
+}
+
+/// Adds the sides of a conflict.
+fn push_conflict(
+    alloc: Global,
+    words: &mut Vec<String>,
+    conflict: Conflict,
+) -> Result<(), AllocError> {
+    let sides = conflict_words(conflict);
+    push(
+        words,
+        format!(in alloc; "the index has a conflict ({sides}), so the worktree isn't asked"),
+    )
+}
+
+/// Adds that an entry is only intended to be added.
+fn push_intended(alloc: Global, words: &mut Vec<String>) -> Result<(), AllocError> {
+    push(
+        words,
+        format!(in alloc;
+            "its entry was made by git add -N, so its content isn't in the index yet"
+        ),
+    )
+}
+
+/// Adds that the worktree has another type of node than the index.
+fn push_type(
+    alloc: Global,
+    words: &mut Vec<String>,
+    old: Mode,
+    new: Mode,
+) -> Result<(), AllocError> {
+    let (old, new) = (mode_words(old), mode_words(new));
+    push(
+        words,
+        format!(in alloc; "the index has {old}, and in its place is {new}"),
+    )
+}
+
+/// Adds that a submodule is at another commit.
+fn push_other_commit(alloc: Global, words: &mut Vec<String>) -> Result<(), AllocError> {
+    push(
+        words,
+        format!(in alloc; "the submodule's HEAD is another commit than that of the index"),
+    )
+}
+
+/// Adds that a submodule is unchanged.
+fn push_same_commit(alloc: Global, words: &mut Vec<String>) -> Result<(), AllocError> {
+    push(
+        words,
+        format!(in alloc; "the submodule's HEAD is the commit of the index, or it has none"),
+    )
+}
+
+/// Adds that the stat alone shows that a file is unchanged.
+fn push_trusted(alloc: Global, words: &mut Vec<String>) -> Result<(), AllocError> {
+    push(
+        words,
+        format!(in alloc;
+            "the index has the same size and times, and is newer than the file, so it isn't read"
+        ),
+    )
+}
+
 /// Adds words, if there was memory for them.
-fn push<E: Drop>(words: &mut Vec<String>, made: Result<String, E>) -> Result<(), AllocError> {
+pub(crate) fn push<E: Drop>(
+    words: &mut Vec<String>,
+    made: Result<String, E>,
+) -> Result<(), AllocError> {
     match made {
         Ok(made) => {
             words.push(made)?;
@@ -142,125 +188,6 @@ fn push_removed(
         Ok(_) => push(words, format!(in alloc; "a directory is in its place")),
         Err(_) => push(words, format!(in alloc; "nothing is there")),
     }
-}
-
-/// Adds why an entry was compared, and how that ended.
-fn push_compared(
-    alloc: Global,
-    words: &mut Vec<String>,
-    explained: &Explained<'_>,
-    compared: Compared<'_>,
-) -> Result<(), AllocError> {
-    let Some(stat) = explained.stat() else {
-        return Ok(());
-    };
-    let entry = explained.entry;
-    let has = EntryText {
-        mode: entry.mode,
-        stat: entry.stat,
-    };
-    push(words, format!(in alloc; "the index has {has}"))?;
-    push_cause(alloc, words, explained, stat, compared)?;
-    match explained.status() {
-        Some(
-            EntryStatus::Change(
-                Change::Modification {
-                    executable_bit_changed: true,
-                    content_change: None,
-                    ..
-                },
-            ),
-        ) => push(
-            words,
-            format!(in alloc; "its content is the same, but whether it is executable differs"),
-        )?,
-        Some(EntryStatus::Change(_)) if explained.id.is_none() => push(
-            words,
-            format!(in alloc; "the size alone shows a change, so it isn't read"),
-        )?,
-        _ => {}
-    }
-    let Some(id) = explained.id else {
-        return Ok(());
-    };
-    let (new, old) = (IdText(id), IdText(entry.id));
-    if id == entry.id {
-        push(
-            words,
-            format!(in alloc; "its content has the id {new}, as in the index"),
-        )
-    } else {
-        push(
-            words,
-            format!(in alloc; "its content has the id {new}; the index has {old}"),
-        )
-    }
-}
-
-/// Adds why an entry's stat doesn't settle that it is unchanged.
-fn push_cause(
-    alloc: Global,
-    words: &mut Vec<String>,
-    explained: &Explained<'_>,
-    stat: Stat,
-    compared: Compared<'_>,
-) -> Result<(), AllocError> {
-    let options = compared.options.stat;
-    let old = &explained.entry.stat;
-    if !stat.matches(old, options) {
-        let fields = differing(alloc, &stat, old, options)?;
-        return push(
-            words,
-            format!(in alloc; "different: {fields}; so it is compared"),
-        );
-    }
-    if stat.is_racy(compared.timestamp, options) {
-        return push(
-            words,
-            format!(in alloc;
-                "the stat agrees, but the index isn't newer than the file, which may have changed since (racy); so it is compared"
-            ),
-        );
-    }
-    if old.size == 0 && !explained.entry.id.is_empty_blob() {
-        return push(
-            words,
-            format!(in alloc;
-                "the index has size 0, which asks for a comparison; so it is compared"
-            ),
-        );
-    }
-    Ok(())
-}
-
-/// Returns the names of the parts of two stats that count and differ.
-fn differing(
-    alloc: Global,
-    new: &Stat,
-    old: &Stat,
-    options: status_index::stat::Options,
-) -> Result<String, AllocError> {
-    let differ = [
-        (new.size != old.size, "size"),
-        (new.mtime.secs != old.mtime.secs, "mtime"),
-        (
-            options.trust_ctime && new.ctime.secs != old.ctime.secs,
-            "ctime",
-        ),
-        (options.check_stat && new.ino != old.ino, "inode"),
-        (options.check_stat && new.uid != old.uid, "owner"),
-        (options.check_stat && new.gid != old.gid, "group"),
-    ];
-    let mut names = String::new(alloc);
-    for (differs, name) in differ {
-        if differs {
-            if !names.is_empty() {
-                names.push_str(", ")?;
-            }
-            names.push_str(name)?;
-        }
-    }
-    Ok(names)
 }
 
 /// Returns the words for the first flag that keeps an entry from being compared, as git's commands name it.

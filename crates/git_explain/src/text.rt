@@ -1,7 +1,8 @@
 //! Explanations as texts.
 
+use crate::comparison::Compared;
 use crate::explained::Explained;
-use crate::reason::{Compared, reasons, status_word};
+use crate::reason::{reasons, status_word};
 use crate::sight::LstatCall;
 use crate::words::{NodeText, PathText};
 use std::alloc::{AllocError, Global};

@@ -16,4 +16,4 @@ returns g c =
       auto = refl;
       entries = refl;
       kind = refl;
-    }) _ _ refl refl c.in_ok-add_entries.ensures
+    }) _ _ refl refl (rw c.new.ensures at c.in_ok-add_entries.ensures)

@@ -10,7 +10,7 @@ use Rattle.git_attributes.proofs.worktree_files.FolderSearch.add_file.Goals as g
 
 pub returns-in-File-clause-added : goal.returns-in-File-clause-added
 returns-in-File-clause-added g c =
-    let tree = c.args.self.now.worktree.now in
+    let tree = c.args.self.now.worktree.worktree.now in
     let old : List File = map file_view c.args.files.now.items in
     let path : bstr_bytes c.new-path.result ≡ file_path c.args.folder.now = c.new-path.ensures ∙ c.as_slice.ensures.value ∙ c.in_ok-path.ensures in
     folder_added (g.W.Worktree.may_stat tree) (g.W.Worktree.may_open tree) c.args.folder.now (bstr_bytes c.new-path.result) (FoundFile c.in-File.bytes) true old (map file_view c.push.new.self.items)
@@ -19,7 +19,7 @@ returns-in-File-clause-added g c =
 
 pub returns-in-NoFile-clause-added : goal.returns-in-NoFile-clause-added
 returns-in-NoFile-clause-added g c =
-    let tree = c.args.self.now.worktree.now in
+    let tree = c.args.self.now.worktree.worktree.now in
     let old : List File = map file_view c.args.files.now.items in
     let path : bstr_bytes c.new-path.result ≡ file_path c.args.folder.now = c.new-path.ensures ∙ c.as_slice.ensures.value ∙ c.in_ok-path.ensures in
     folder_added (g.W.Worktree.may_stat tree) (g.W.Worktree.may_open tree) c.args.folder.now (bstr_bytes c.new-path.result) NoFile true old old
@@ -27,7 +27,7 @@ returns-in-NoFile-clause-added g c =
 
 pub returns-clause-added : goal.returns-clause-added
 returns-clause-added g c =
-    let tree = c.args.self.now.worktree.now in
+    let tree = c.args.self.now.worktree.worktree.now in
     let old : List File = map file_view c.args.files.now.items in
     let path : bstr_bytes c.new-path.result ≡ file_path c.args.folder.now = c.new-path.ensures ∙ c.as_slice.ensures.value ∙ c.in_ok-path.ensures in
     folder_added (g.W.Worktree.may_stat tree) (g.W.Worktree.may_open tree) c.args.folder.now (bstr_bytes c.new-path.result) NoFolder false old old

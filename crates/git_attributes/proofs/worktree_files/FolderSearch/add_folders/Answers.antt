@@ -9,12 +9,12 @@ use Rattle.git_attributes.proofs.worktree_files.FolderSearch.add_folders.Goals a
 
 pub folders-init : goal.folders-init
 folders-init g c =
-    let tree = c.args.self.now.worktree.now in
+    let tree = c.args.self.now.worktree.worktree.now in
     (c.requires.within, c.requires.opened, walked_none (g.W.Worktree.may_stat tree) (g.W.Worktree.may_open tree) (up_to_long (folders_from (take c.args.from c.args.path.now) (drop c.args.from c.args.path.now))) (map file_view c.args.files.now.items))
 
 pub returns-then-not-branch-clause-added : goal.returns-then-not-branch-clause-added
 returns-then-not-branch-clause-added g c =
-    let tree = c.args.self.now.worktree.now in
+    let tree = c.args.self.now.worktree.worktree.now in
     let may_stat = g.W.Worktree.may_stat tree in
     let may_open = g.W.Worktree.may_open tree in
     let path : List ℕ = c.args.path.now in
@@ -32,7 +32,7 @@ returns-then-not-branch-clause-added g c =
 
 pub returns-then-end-ge-PATH_LIMIT-clause-added : goal.returns-then-end-ge-PATH_LIMIT-clause-added
 returns-then-end-ge-PATH_LIMIT-clause-added g c =
-    let tree = c.args.self.now.worktree.now in
+    let tree = c.args.self.now.worktree.worktree.now in
     let may_stat = g.W.Worktree.may_stat tree in
     let may_open = g.W.Worktree.may_open tree in
     let path : List ℕ = c.args.path.now in
@@ -49,7 +49,7 @@ returns-then-end-ge-PATH_LIMIT-clause-added g c =
 
 pub folders-preserved : goal.folders-preserved
 folders-preserved g c =
-    let tree = c.args.self.now.worktree.now in
+    let tree = c.args.self.now.worktree.worktree.now in
     let may_stat = g.W.Worktree.may_stat tree in
     let may_open = g.W.Worktree.may_open tree in
     let path : List ℕ = c.args.path.now in

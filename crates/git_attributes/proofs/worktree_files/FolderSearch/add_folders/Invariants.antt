@@ -8,8 +8,8 @@ use Rattle.git_attributes.proofs.worktree_files.FolderSearch.add_folders.Given a
 abbrev pub invariant-folders : goal.invariant-folders
 invariant-folders g l =
     (l.at ≤ length l.path)
-    × IsOpen (g.W.Worktree.may_stat l.self.worktree.now) l.check.path
-    × IsWalked (g.W.Worktree.may_stat l.self.worktree.now) (g.W.Worktree.may_open l.self.worktree.now)
+    × IsOpen (g.W.Worktree.may_stat l.self.worktree.worktree.now) l.check.path
+    × IsWalked (g.W.Worktree.may_stat l.self.worktree.worktree.now) (g.W.Worktree.may_open l.self.worktree.worktree.now)
     (up_to_long (folders_from (take l.from l.path) (drop l.from l.path))) (up_to_long (folders_from (take l.at l.path) (drop l.at l.path)))
     (map file_view l.fn.files.items) (map file_view l.files.items)
 

@@ -1,4 +1,5 @@
-use Rattle.std.proofs.Common.{[], length, map}
+use Rattle.std.proofs.Common.{◌≡◌, [], length, map, nat_eq, true}
+use Rattle.std.specs.List.{starts_with}
 use Rattle.status_index.specs.Entries.{index_entries}
 use Rattle.status_index.specs.States.{backing_of, index_of}
 use Rattle.status_base.specs.Sights.{IsOpen}
@@ -9,8 +10,9 @@ use Rattle.git_attributes.proofs.worktree_files.FolderSearch.files.Given as goal
 
 abbrev pub invariant-entries : goal.invariant-entries
 invariant-entries g l =
-    IsOpen (g.W.Worktree.may_stat l.self.worktree.now) l.check.path
-    × IsWalked (g.W.Worktree.may_stat l.self.worktree.now) (g.W.Worktree.may_open l.self.worktree.now)
+    (starts_with nat_eq l.before l.folder ≡ true)
+    × IsOpen (g.W.Worktree.may_stat l.self.worktree.worktree.now) l.check.path
+    × IsWalked (g.W.Worktree.may_stat l.self.worktree.worktree.now) (g.W.Worktree.may_open l.self.worktree.worktree.now)
     (folders_of (index_of l.self.index.now)) (folders_after l.before (index_entries (backing_of l.self.index.now) l.rest))
     [] (map file_view l.files.items)
 

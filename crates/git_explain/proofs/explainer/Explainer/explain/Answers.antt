@@ -7,7 +7,7 @@ use Rattle.git_explain.proofs.explainer.Explainer.explain.Goals as goal
 
 pub returns-clause-allowed : goal.returns-clause-allowed
 returns-clause-allowed g c =
-    let tree = c.args.self.now.worktree.now in
+    let tree = c.args.self.now.worktree.worktree.now in
     let path = bstr_bytes c.args.path in
     let report = g.S.SubmoduleStatus.may_report c.args.self.now.submodules (entry_at path c.args.entry.now) in
     let may = IsSightAllowed (g.W.Worktree.may_stat tree) (g.W.Worktree.may_open tree path) (g.W.Worktree.may_link tree path) report in

@@ -15,7 +15,7 @@ entries-init g c =
     let included = g.P.Pathspec.included c.args.paths.now in (
       [],
       ap (λ (v : List Entry). first_entries included [] (index_entries x.index.now.backing v)) c.entries-rest.ensures.value,
-      adds_none (g.W.Worktree.may_stat x.worktree.now) (g.W.Worktree.may_open x.worktree.now) (g.W.Worktree.may_link x.worktree.now) (g.S.SubmoduleStatus.may_report x.submodules)
+      adds_none (g.W.Worktree.may_stat x.worktree.worktree.now) (g.W.Worktree.may_open x.worktree.worktree.now) (g.W.Worktree.may_link x.worktree.worktree.now) (g.S.SubmoduleStatus.may_report x.submodules)
           (settings x.options x.index.now) x.filter x.index.now c.args.self.now,
       refl,
       λ e report h. h,
@@ -32,9 +32,9 @@ entries-preserved g c =
     let splits = first_of included x.index.now.backing c.path_backing.result.now c.entries.before.now (bstr_bytes c.path_in-path.result) rest c.is_selected-selected.result _ c.in-len1-up.len_at_least
     c.path_in-path.ensures c.path_backing.ensures c.is_selected-selected.ensures in
     let left = ap (λ (v : List ℕ). first_entries included v (index_entries x.index.now.backing after)) c.as_bytes-before.ensures in
-    let adds = adds_within (g.W.Worktree.may_stat x.worktree.now) (g.W.Worktree.may_open x.worktree.now) (g.W.Worktree.may_link x.worktree.now) (g.S.SubmoduleStatus.may_report y.submodules)
+    let adds = adds_within (g.W.Worktree.may_stat x.worktree.worktree.now) (g.W.Worktree.may_open x.worktree.worktree.now) (g.W.Worktree.may_link x.worktree.worktree.now) (g.S.SubmoduleStatus.may_report y.submodules)
     (g.S.SubmoduleStatus.may_report x.submodules) (settings x.options x.index.now) x.filter x.index.now _ c.entries.self c.add_if.new.self inv.4 (rw inv.3 at c.in_ok-add_if.ensures.adds) in
-    let more = continued (g.W.Worktree.may_stat x.worktree.now) (g.W.Worktree.may_open x.worktree.now) (g.W.Worktree.may_link x.worktree.now) (g.S.SubmoduleStatus.may_report x.submodules)
+    let more = continued (g.W.Worktree.may_stat x.worktree.worktree.now) (g.W.Worktree.may_open x.worktree.worktree.now) (g.W.Worktree.may_link x.worktree.worktree.now) (g.S.SubmoduleStatus.may_report x.submodules)
     (settings x.options x.index.now) x.filter x.index.now _ inv.0 _ _ _ c.args.self.now c.entries.self c.add_if.new.self inv.1 splits inv.2 adds in (
       more.0,
       ap (λ (v : List IndexEntry). more.0 ++ v) left ∙ more.1,
