@@ -206,7 +206,7 @@ pub fn read_index(
 /// Does what `read_index` does, without comparing the checksum, which the caller does.
 ///
 /// # Errors
-/// Those of `read_index`, but for a wrong checksum.
+/// Those of `read_index`, except a wrong checksum.
 pub(crate) fn read_unchecked(
     alloc: Global,
     kind: HashKind,
