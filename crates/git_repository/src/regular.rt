@@ -76,13 +76,22 @@ pub fn read_regular<R: Files + AllocGlobal>(
     // Another file may be at the path by now. (A pipe that came meanwhile is waited for.)
     let metadata = found(file.metadata())?;
     check(&metadata, limit)?;
-    let bytes = read_to(rt.alloc(), file, limit)?;
+    let bytes = read_to(rt.alloc(), file, metadata.len(), limit)?;
     Ok(RegularFile { bytes, metadata })
 }
 
-// Reads a file to its end.
-fn read_to<F: io::Read + Drop>(alloc: Global, file: F, limit: usize) -> Result<Vec<u8>, Unread> {
-    let mut bytes = Vec::new(alloc);
+// Reads a file to its end, at most one byte more than the limit. It probably has `len` bytes: with room for one more, its end is
+// found without a larger vector.
+fn read_to<F: io::Read + Drop>(
+    alloc: Global,
+    file: F,
+    len: u64,
+    limit: usize,
+) -> Result<Vec<u8>, Unread> {
+    let room = (len as usize).min(limit).saturating_add(1);
+    let Ok(mut bytes) = Vec::with_capacity(alloc, room) else {
+        return Err(Unread::System(io::ErrorKind::OutOfMemory));
+    };
     found(
         file.take((limit as u64).saturating_add(1))
             .read_to_end(&mut bytes),
