@@ -123,11 +123,14 @@ where
     let top = repository.top.as_str();
     let tops = tops_of(alloc, selected)?;
     let settings = settings_of(repository, request, file.timestamp);
-    let read = ReadIndex::in_parallel(rt, &file.bytes, &settings)?;
+    let read = if may_check_later(request) {
+        ReadIndex::unchecked(alloc, &file.bytes, &settings)?
+    } else {
+        ReadIndex::of(alloc, &file.bytes, &settings)?
+    };
     let worktree = worktree_at(rt, top, request.enter)?;
     check_each(alloc, &read.file.state, &worktree, selected)?;
     let ignored = IgnoredSubmodules::read(rt, top, &repository.config, &read.file.state)?;
-    note_unread(request, repository, &ignored, faults);
     let exceptions = Exceptions::of(alloc, &read.file.state, &worktree, selected, &ignored)?;
     let unread = AtomicBool::new(false);
     let asked = Asked {
@@ -155,7 +158,11 @@ where
         },
     };
     let compared = compare(rt, request, read, nested, asked, output, faults);
-    if compared.status != FAILED && !exceptions.illformed.is_empty() {
+    if compared.status == FAILED {
+        return Ok(FAILED);
+    }
+    note_unread(request, repository, &ignored, faults);
+    if !exceptions.illformed.is_empty() {
         return Ok(print_illformed(alloc, &exceptions.illformed, faults));
     }
     let Some(begun) = begun else {
@@ -168,6 +175,11 @@ where
         unread: unread.load(Ordering::Relaxed),
     };
     refresh.end(rt, compared)
+}
+
+/// Returns whether the status may compare the index's checksum: nothing that depends on the index is printed before it.
+fn may_check_later(request: &Request<'_>) -> bool {
+    request.paths.is_empty() && !request.explain
 }
 
 /// Checks the selected paths in a repository without an index file, which has no entries.

@@ -2,7 +2,7 @@
 //!
 //! Read `index_file` first, the file in memory, and `read`: a file is a header, entries, extensions and a checksum.
 //! `cursor` takes the file's numbers and `entry` the bytes of one entry, and `paths` makes its path. `extensions` and
-//! `checksum` read the file's end, and `parallel` reads a file with two threads. `write` writes a file, with `number`. `fault` has the errors.
+//! `checksum` read the file's end. `write` writes a file, with `number`. `fault` has the errors.
 #![tactic(auto)]
 
 mod checksum;
@@ -12,13 +12,11 @@ mod extensions;
 pub mod fault;
 pub mod index_file;
 mod number;
-mod parallel;
 mod paths;
 mod read;
 mod write;
 
 pub use fault::{Fault, IndexFileError};
 pub use index_file::IndexFile;
-pub use parallel::read_index_in_parallel;
-pub use read::read_index;
+pub use read::{ends_with_checksum, read_index, read_unchecked};
 pub use write::write_index;

@@ -163,7 +163,7 @@ fn parts_of(kind: HashKind, bytes: &[u8]) -> Result<Parts<'_>, IndexFileError>
 
 /// Returns whether a file ends with the checksum of its content, or with zeros in place of one, as git's `index.skipHash`
 /// writes them.
-pub(crate) fn ends_with_checksum(kind: HashKind, bytes: &[u8]) -> bool
+pub fn ends_with_checksum(kind: HashKind, bytes: &[u8]) -> bool
     ensures { IsTrue result ↔ EndsWithChecksum kind bytes.now }
 {
     let content_len = bytes.len().saturating_sub(id_len_of(kind));
@@ -186,6 +186,7 @@ pub fn read_index(
     timestamp: Moment,
 ) -> Result<IndexFile<'_>, IndexFileError>
     ensures found { IfOk result (λ r. IsFileOf kind bytes.now r.version (index_of r.state) r.extensions.now) }
+    ensures checked { IfOk result (λ _. EndsWithChecksum kind bytes.now) }
     ensures kind { IfOk result (λ r. r.kind ≡ kind) }
     ensures whole { IfOk result IsWholeFile }
     ensures sum { IfOk result (λ r. (r.has_checksum ≡ false) ↔ (sum_of kind bytes.now ≡ replicate (id_len kind) 0)) }
@@ -203,11 +204,11 @@ pub fn read_index(
     read_unchecked(alloc, kind, bytes, timestamp)
 }
 
-/// Does what `read_index` does, without comparing the checksum, which the caller does.
+/// Does what `read_index` does, without comparing the checksum, which the caller does by `ends_with_checksum`.
 ///
 /// # Errors
 /// Those of `read_index`, except a wrong checksum.
-pub(crate) fn read_unchecked(
+pub fn read_unchecked(
     alloc: Global,
     kind: HashKind,
     bytes: &[u8],

@@ -6,6 +6,9 @@ use Rattle.git_attributes.specs.Files.{File, Said, attributes_of}
 use Rattle.git_attributes.specs.declared.line_ends.LineEnds.{LineEnds}
 use Rattle.git_attributes.specs.Views.{attributes_view}
 use Rattle.git_index.specs.File.{IsFileOf}
+use Rattle.git_index.specs.Refusals.{EndsWithChecksum}
+use Rattle.git_index.specs.declared.fault.IndexFileError.TheVariants.{Checksum}
+use Rattle.status_index.specs.declared.id.HashKind.{HashKind}
 use Rattle.status_call.specs.Inputs.{settings}
 use Rattle.status_call.specs.IndexChanges.{AreInside}
 use Rattle.status_index.specs.States.{index_of, timestamp_of}
@@ -19,11 +22,11 @@ use Rattle.status_compare.specs.declared.error.Error.{Error}
 use Rattle.status_index.specs.declared.state.State.{State}
 use Rattle.git_status.specs.Founds.{IsFoundIn, IsFoundRun, IsIndexFound}
 use Rattle.git_status.specs.Refreshes.{IsFileRefreshed, IsRefresh, IsRefreshedFile, IsUnrefreshed}
-use Rattle.git_status.specs.Runs.{Asking, Converting, IsComputed, IsCommandEnd, IsCommandRun, IsStatusRun, ReadFile}
+use Rattle.git_status.specs.Runs.{Asking, Converting, IsComputed, IsEarly, IsCommandEnd, IsCommandRun, IsStatusRun, ReadFile}
 use Rattle.git_status.specs.declared.asked.Settings.{Settings}
 use Rattle.git_status.specs.declared.answer.Report.{Report}
 use Rattle.git_status.specs.declared.failure.Failure.{Failure}
-use Rattle.git_status.specs.declared.failure.Failure.TheVariants.{Memory}
+use Rattle.git_status.specs.declared.failure.Failure.TheVariants.{Index, Memory}
 use Rattle.git_status.specs.declared.found.Found.{Found}
 use Rattle.git_status.proofs.LeftOut.{kept_inside}
 use Rattle.git_status.proofs.Runs.{early_run, file_run, status_run}
@@ -32,6 +35,11 @@ use Rattle.git_status.proofs.Runs.{early_run, file_run, status_run}
 pub not_empty : {A : Type 0} (xs : List A) (n : ℕ) → n ≡ length xs → (n == 0) ≡ false → xs ≢ []
 not_empty [] n len none nil = absurd (let known : (0 == 0) ≡ false = subst (λ m. (m == 0) ≡ false) len none in cc)
 not_empty (x ∷ xs) n len none nil = absurd (cc)
+
+-- memory that ran out early
+memory_early : {A : Type 0} (kind : HashKind) (bytes : List ℕ) (result : Result A Failure) → IsErrAnd result (λ f. f ≡ Memory) → IsErrAnd result (IsEarly kind bytes)
+memory_early kind bytes (Ok x) failed = absurd failed
+memory_early kind bytes (Err f) failed = inl failed
 
 module _ {T U : Type 0} where
   -- the changes were found, if they are wanted
@@ -63,90 +71,102 @@ module _ {T U : Type 0} where
   found_inside said query may index s old found new run =
       subst (λ changes. AreInside changes (index_of index)) (sym (run.1 refl).0) (kept_inside said query index run.0.answer run.0.visits run.0.computed.met)
 
-  -- an index whose line ends are converted, and the changes that its status asks for
-  pub index_found : (wanted : Bool) (a : Asking T U) (index : State) (files : List File) (filter : LineEnds) (old : Option (List ℕ)) (result : Result Found Failure) (new : Option (List ℕ))
-      → a.are_files index files → attributes_view filter.attributes.now ≡ attributes_of files → filter.auto ≡ a.settings.auto_line_ends → filter.index.now ≡ index → filter.kind ≡ a.settings.kind
-      → IsFoundRun wanted (attributes_view filter.attributes.now) (a.query filter (settings a.settings.options filter.index.now)) a.may_return filter.index.now a.settings old result new → IsIndexFound wanted a index old result new
+  -- the index of a file with a right checksum, whose line ends are converted, and the changes that its status asks for
+  pub index_found : (wanted : Bool) (a : Asking T U) (bytes : List ℕ) (index : State) (files : List File) (filter : LineEnds) (old : Option (List ℕ)) (result : Result Found Failure) (new : Option (List ℕ))
+      → EndsWithChecksum a.settings.kind bytes → a.are_files index files → attributes_view filter.attributes.now ≡ attributes_of files → filter.auto ≡ a.settings.auto_line_ends → filter.index.now ≡ index → filter.kind ≡ a.settings.kind
+      → IsFoundRun wanted (attributes_view filter.attributes.now) (a.query filter (settings a.settings.options index)) a.may_return index a.settings old result new → IsIndexFound wanted a bytes index old result new
   unfolding IsIndexFound
-  index_found wanted a index files filter old result new found attributes auto entries kind run =
+  index_found wanted a bytes index files filter old result new checked found attributes auto entries kind run =
       inl (
-        record { files = files; found = found; filter = filter; attributes = attributes; auto = auto; entries = entries; kind = kind },
-        subst (λ said. IsFoundRun wanted said (a.query filter (settings a.settings.options index)) a.may_return index a.settings old result new) attributes
-            (subst (λ at. IsFoundRun wanted (attributes_view filter.attributes.now) (a.query filter (settings a.settings.options at)) a.may_return at a.settings old result new) entries run),
+        checked,
+        (
+          record { files = files; found = found; filter = filter; attributes = attributes; auto = auto; entries = entries; kind = kind },
+          subst (λ said. IsFoundRun wanted said (a.query filter (settings a.settings.options index)) a.may_return index a.settings old result new) attributes run,
+        ),
       )
 
   -- memory ran out before the status of an index
-  pub unfound_index : (wanted : Bool) (a : Asking T U) (index : State) (known : Option (List ℕ)) (result : Result Found Failure)
-      → IsErrAnd result (λ f. f ≡ Memory) → IsIndexFound wanted a index known result known
+  pub unfound_index : (wanted : Bool) (a : Asking T U) (bytes : List ℕ) (index : State) (known : Option (List ℕ)) (result : Result Found Failure)
+      → IsErrAnd result (λ f. f ≡ Memory) → IsIndexFound wanted a bytes index known result known
   unfolding IsIndexFound
-  unfound_index wanted a index known result failed = inr (failed, refl)
+  unfound_index wanted a bytes index known result failed = inr (memory_early a.settings.kind bytes result failed, refl)
+
+  -- the checksum is wrong
+  pub wrong_index : (wanted : Bool) (a : Asking T U) (bytes : List ℕ) (index : State) (known : Option (List ℕ)) → (EndsWithChecksum a.settings.kind bytes → ⊥) → IsIndexFound wanted a bytes index known (Err (Index Checksum)) known
+  unfolding IsIndexFound
+  wrong_index wanted a bytes index known wrong = inr (inr (refl, wrong), refl)
 
   -- what was found
   abbrev FoundIn : Bool → Asking T U → State → Option (List ℕ) → Found → Option (List ℕ) → Type 0
   FoundIn wanted a index old found new = (c : Converting a index) × IsFoundRun wanted (attributes_of c.files) (a.query c.filter (settings a.settings.options index)) a.may_return index a.settings old (Ok found) new
 
-  found_in : (wanted : Bool) (a : Asking T U) (index : State) (old : Option (List ℕ)) (found : Found) (new : Option (List ℕ))
-      → IsIndexFound wanted a index old (Ok found) new → FoundIn wanted a index old found new
+  found_in : (wanted : Bool) (a : Asking T U) (bytes : List ℕ) (index : State) (old : Option (List ℕ)) (found : Found) (new : Option (List ℕ))
+      → IsIndexFound wanted a bytes index old (Ok found) new → EndsWithChecksum a.settings.kind bytes × FoundIn wanted a index old found new
   unfolding IsIndexFound
-  found_in wanted a index old found new (inl run) = run
-  found_in wanted a index old found new (inr early) = absurd early.0
+  found_in wanted a bytes index old found new (inl run) = run
+  found_in wanted a bytes index old found new (inr early) = absurd early.0
+
+  -- the file of a status that was found has a right checksum
+  pub found_checked : (wanted : Bool) (a : Asking T U) (bytes : List ℕ) (index : State) (old : Option (List ℕ)) (found : Found) (new : Option (List ℕ))
+      → IsIndexFound wanted a bytes index old (Ok found) new → EndsWithChecksum a.settings.kind bytes
+  found_checked wanted a bytes index old found new run = (found_in wanted a bytes index old found new run).0
 
   -- they are of entries of the index
-  pub index_inside : (a : Asking T U) (index : State) (old : Option (List ℕ)) (found : Found) (new : Option (List ℕ))
-      → IsIndexFound true a index old (Ok found) new → AreInside found.changes.items (index_of index)
-  index_inside a index old found new run =
-      let c = found_in true a index old found new run in found_inside (attributes_of c.0.files) (a.query c.0.filter (settings a.settings.options index)) a.may_return index a.settings old found new c.1
+  pub index_inside : (a : Asking T U) (bytes : List ℕ) (index : State) (old : Option (List ℕ)) (found : Found) (new : Option (List ℕ))
+      → IsIndexFound true a bytes index old (Ok found) new → AreInside found.changes.items (index_of index)
+  index_inside a bytes index old found new run =
+      let c = (found_in true a bytes index old found new run).1 in found_inside (attributes_of c.0.files) (a.query c.0.filter (settings a.settings.options index)) a.may_return index a.settings old found new c.1
 
   module _ (a : Asking T U) (bytes : List ℕ) (old : Option (List ℕ)) (index : State) (version : ℕ) (extensions : List ℕ)
-      (file : IsFileOf a.settings.kind bytes version (index_of index) extensions) (time : timestamp_of index ≡ a.settings.timestamp) where
-    abbrev read_by : Converting a index → ReadFile a bytes
-    read_by c = record { index = index; version = version; extensions = extensions; file = file; time = time; converting = c }
+      (file : EndsWithChecksum a.settings.kind bytes → IsFileOf a.settings.kind bytes version (index_of index) extensions) (time : timestamp_of index ≡ a.settings.timestamp) where
+    abbrev read_by : EndsWithChecksum a.settings.kind bytes → Converting a index → ReadFile a bytes
+    read_by checked c = record { index = index; version = version; extensions = extensions; file = file checked; time = time; converting = c }
 
     -- a file that was read, and its status, for which no changes are wanted
-    pub reported_file : (found : Found) (new : Option (List ℕ)) → IsIndexFound false a index old (Ok found) new → IsCommandRun a bytes old (Ok found.report) new
+    pub reported_file : (found : Found) (new : Option (List ℕ)) → IsIndexFound false a bytes index old (Ok found) new → IsCommandRun a bytes old (Ok found.report) new
     reported_file found new run =
-        let c = found_in false a index old found new run in file_run a bytes old (Ok found.report) new (read_by c.0) c.1.0
+        let c = found_in false a bytes index old found new run in file_run a bytes old (Ok found.report) new (read_by c.0 c.1.0) c.1.1.0
 
-    unreported : (f : Failure) (new : Option (List ℕ)) → IsIndexFound false a index old (Err f) new → IsCommandRun a bytes old (Err f) new
+    unreported : (f : Failure) (new : Option (List ℕ)) → IsIndexFound false a bytes index old (Err f) new → IsCommandRun a bytes old (Err f) new
     unfolding IsIndexFound
-    unreported f new (inl (c, inl run)) = file_run a bytes old (Err f) new (read_by c) run
-    unreported f new (inl (c, inr late)) = absurd (false≢true late.3)
+    unreported f new (inl (checked, (c, inl run))) = file_run a bytes old (Err f) new (read_by checked c) run
+    unreported f new (inl (checked, (c, inr late))) = absurd (false≢true late.3)
     unreported f new (inr early) = subst (λ after. IsCommandRun a bytes old (Err f) after) (sym early.1) (early_run a bytes old (Err f) early.0)
 
-    pub unreported_file : (f : Failure) (result : Result Report Failure) (new : Option (List ℕ)) → IsIndexFound false a index old (Err f) new → IsErrAnd result (λ e. e ≡ f) → IsCommandRun a bytes old result new
+    pub unreported_file : (f : Failure) (result : Result Report Failure) (new : Option (List ℕ)) → IsIndexFound false a bytes index old (Err f) new → IsErrAnd result (λ e. e ≡ f) → IsCommandRun a bytes old result new
     unreported_file f (Ok r) new run failed = absurd failed
     unreported_file f (Err e) new run failed = subst (λ e. IsCommandRun a bytes old (Err e) new) (sym failed) (unreported f new run)
 
     -- a file that was read, and its new bytes
-    pub refreshed_file : (found : Found) (refreshed new : Option (List ℕ)) → IsIndexFound true a index old (Ok found) new
+    pub refreshed_file : (found : Found) (refreshed new : Option (List ℕ)) → IsIndexFound true a bytes index old (Ok found) new
         → IsRefreshedFile a.settings.kind bytes version extensions (index_of index) found.changes.items refreshed → IsFileRefreshed a bytes old found.report found.is_whole extensions refreshed new
     refreshed_file found refreshed new run fits =
-        let c = found_in true a index old found new run in
+        let c = found_in true a bytes index old found new run in
         record {
-          run = (read_by c.0, c.1.0);
+          run = (read_by c.0 c.1.0, c.1.1.0);
           kept = refl;
-          whole = (c.1.1 refl).1;
-          file = subst (λ changes. IsRefreshedFile a.settings.kind bytes version extensions (index_of index) changes refreshed) (c.1.1 refl).0 fits;
+          whole = (c.1.1.1 refl).1;
+          file = subst (λ changes. IsRefreshedFile a.settings.kind bytes version extensions (index_of index) changes refreshed) (c.1.1.1 refl).0 fits;
         }
 
     -- a file that was read, and whose status fails, or memory ran out after it
-    unrefreshed : (f : Failure) (new : Option (List ℕ)) (c : Converting a index) → IsFoundRun true (attributes_of c.files) (a.query c.filter (settings a.settings.options index)) a.may_return index a.settings old (Err f) new → IsUnrefreshed a bytes old f new
-    unrefreshed f new c (inl run) = inl (file_run a bytes old (Err f) new (read_by c) run)
-    unrefreshed f new c (inr late) = inr (late.0, file_run a bytes old (Ok late.0) new (read_by c) late.1, late.2)
+    unrefreshed : (f : Failure) (new : Option (List ℕ)) → EndsWithChecksum a.settings.kind bytes → (c : Converting a index) → IsFoundRun true (attributes_of c.files) (a.query c.filter (settings a.settings.options index)) a.may_return index a.settings old (Err f) new → IsUnrefreshed a bytes old f new
+    unrefreshed f new checked c (inl run) = inl (file_run a bytes old (Err f) new (read_by checked c) run)
+    unrefreshed f new checked c (inr late) = inr (late.0, file_run a bytes old (Ok late.0) new (read_by checked c) late.1, late.2)
 
-    failed_by : (f : Failure) (new : Option (List ℕ)) → IsIndexFound true a index old (Err f) new → IsUnrefreshed a bytes old f new
+    failed_by : (f : Failure) (new : Option (List ℕ)) → IsIndexFound true a bytes index old (Err f) new → IsUnrefreshed a bytes old f new
     unfolding IsIndexFound
-    failed_by f new (inl run) = unrefreshed f new run.0 run.1
+    failed_by f new (inl run) = unrefreshed f new run.0 run.1.0 run.1.1
     failed_by f new (inr early) = inl (subst (λ after. IsCommandRun a bytes old (Err f) after) (sym early.1) (early_run a bytes old (Err f) early.0))
 
-    pub unrefreshed_file : (f : Failure) (result : Result (Report × Refreshed) Failure) (new : Option (List ℕ)) → IsIndexFound true a index old (Err f) new → IsErrAnd result (λ e. e ≡ f) → IsRefresh a bytes old result new
+    pub unrefreshed_file : (f : Failure) (result : Result (Report × Refreshed) Failure) (new : Option (List ℕ)) → IsIndexFound true a bytes index old (Err f) new → IsErrAnd result (λ e. e ≡ f) → IsRefresh a bytes old result new
     unfolding IsRefresh
     unrefreshed_file f (Ok r) new run failed = absurd failed
     unrefreshed_file f (Err e) new run failed = subst (λ e. IsUnrefreshed a bytes old e new) (sym failed) (failed_by f new run)
 
     -- memory ran out after the changes were found
-    pub late_file : (found : Found) (result : Result (Report × Refreshed) Failure) (new : Option (List ℕ)) → IsIndexFound true a index old (Ok found) new → IsErrAnd result (λ e. e ≡ Memory) → IsRefresh a bytes old result new
+    pub late_file : (found : Found) (result : Result (Report × Refreshed) Failure) (new : Option (List ℕ)) → IsIndexFound true a bytes index old (Ok found) new → IsErrAnd result (λ e. e ≡ Memory) → IsRefresh a bytes old result new
     unfolding IsRefresh
     late_file found (Ok r) new run failed = absurd failed
     late_file found (Err e) new run failed =
-        let c = found_in true a index old found new run in inr (found.report, file_run a bytes old (Ok found.report) new (read_by c.0) c.1.0, failed)
+        let c = found_in true a bytes index old found new run in inr (found.report, file_run a bytes old (Ok found.report) new (read_by c.0 c.1.0) c.1.1.0, failed)

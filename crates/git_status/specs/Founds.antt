@@ -8,7 +8,8 @@ use Rattle.status_call.specs.Query.{Query}
 use Rattle.status_call.specs.Visits.{Visit}
 use Rattle.status_index.specs.declared.state.State.{State}
 use Rattle.git_status.specs.Kept.{is_whole, kept_changes}
-use Rattle.git_status.specs.Runs.{Asking, Converting, IsStatusRun}
+use Rattle.git_index.specs.Refusals.{EndsWithChecksum}
+use Rattle.git_status.specs.Runs.{Asking, Converting, IsEarly, IsStatusRun}
 use Rattle.git_status.specs.declared.asked.Settings.{Settings}
 use Rattle.git_status.specs.declared.answer.Report.{Report}
 use Rattle.git_status.specs.declared.failure.Failure.{Failure}
@@ -26,7 +27,8 @@ module _ {T U : Type 0} where
   IsFoundRun wanted said query may index s old (Ok found) new = (run : IsStatusRun query may index s old (Ok found.report) new) × (wanted ≡ true → IsFoundIn said run.visits found)
   IsFoundRun wanted said query may index s old (Err f) new = IsStatusRun query may index s old (Err f) new ⊎ ((r : Report) × IsStatusRun query may index s old (Ok r) new × (f ≡ Memory) × (wanted ≡ true))
 
-  -- The same, with line ends converted; or memory ran out before it.
-  unfoldable pub IsIndexFound : Bool → Asking T U → State → Option (List ℕ) → Result Found Failure → Option (List ℕ) → Type 0
-  IsIndexFound wanted a index old result new =
-      ((c : Converting a index) × IsFoundRun wanted (attributes_of c.files) (a.query c.filter (settings a.settings.options index)) a.may_return index a.settings old result new) ⊎ (IsErrAnd result (λ f. f ≡ Memory) × (new ≡ old))
+  -- The same for the index of a file with a right checksum, with line ends converted; or the command ended before it.
+  unfoldable pub IsIndexFound : Bool → Asking T U → List ℕ → State → Option (List ℕ) → Result Found Failure → Option (List ℕ) → Type 0
+  IsIndexFound wanted a bytes index old result new =
+      (EndsWithChecksum a.settings.kind bytes × ((c : Converting a index) × IsFoundRun wanted (attributes_of c.files) (a.query c.filter (settings a.settings.options index)) a.may_return index a.settings old result new))
+      ⊎ (IsErrAnd result (IsEarly a.settings.kind bytes) × (new ≡ old))

@@ -1,8 +1,8 @@
 -- The bytes of an index file, and the index that was read from them.
-use Rattle.std.specs.Prelude.{◌≡◌, ◌↔◌, ℕ, false, List, replicate}
+use Rattle.std.specs.Prelude.{◌≡◌, ◌↔◌, ℕ, true, false, List, replicate}
 use Rattle.git_index.specs.File.{IsFileOf, IsIndexFile}
 use Rattle.git_index.specs.RawEntry.{id_len}
-use Rattle.git_index.specs.Refusals.{IsFileRefusal, sum_of}
+use Rattle.git_index.specs.Refusals.{EndsWithChecksum, IsFileRefusal, sum_of}
 use Rattle.git_index.specs.WholeFile.{IsWholeFile}
 use Rattle.git_index.specs.declared.fault.IndexFileError.{IndexFileError}
 use Rattle.git_index.specs.declared.fault.IndexFileError.TheVariants as index
@@ -13,10 +13,12 @@ use Rattle.git_status.specs.declared.asked.Settings.{Settings}
 use Rattle.git_status.specs.declared.failure.Failure.{Failure}
 use Rattle.git_status.specs.declared.read.ReadIndex.{ReadIndex}
 
--- The bytes are this index file, read with the kind of ids and the timestamp of these settings.
+-- The bytes are this index file if they end with its checksum, which may have been compared. It was read with the kind of ids and
+-- the timestamp of these settings.
 pub record IsRead (s : Settings) (r : ReadIndex) : Type 0 where
   pub kind : r.file.kind ≡ s.kind
-  pub file : IsFileOf s.kind r.bytes.now r.file.version (index_of r.file.state) r.file.extensions.now
+  pub checked : r.is_checked ≡ true → EndsWithChecksum s.kind r.bytes.now
+  pub file : EndsWithChecksum s.kind r.bytes.now → IsFileOf s.kind r.bytes.now r.file.version (index_of r.file.state) r.file.extensions.now
   pub whole : IsWholeFile r.file
   pub sum : (r.file.has_checksum ≡ false) ↔ (sum_of s.kind r.bytes.now ≡ replicate (id_len s.kind) 0)
   pub time : timestamp_of r.file.state ≡ s.timestamp

@@ -7,6 +7,8 @@ use Rattle.git_attributes.specs.Files.{File, attributes_of}
 use Rattle.git_attributes.specs.Views.{attributes_view}
 use Rattle.git_attributes.specs.declared.line_ends.LineEnds.{LineEnds}
 use Rattle.git_index.specs.File.{IsFileOf}
+use Rattle.git_index.specs.Refusals.{EndsWithChecksum}
+use Rattle.git_index.specs.declared.fault.IndexFileError.TheVariants.{Checksum}
 use Rattle.git_status.specs.Lines.{differs, visit_lines}
 use Rattle.git_status.specs.declared.lines.LineStyle.{LineStyle}
 use Rattle.status_call.specs.MayReturn.{MayReturn}
@@ -17,12 +19,13 @@ use Rattle.status_call.specs.Records.{verdict}
 use Rattle.status_call.specs.StatusOf.{OneThreadSpawnsNone}
 use Rattle.status_call.specs.StatusSeen.{IsStatusSeen}
 use Rattle.status_call.specs.StatusTheorem.{IsStatusReport, considered_entries}
-use Rattle.status_call.specs.Views.{AllAllowed, Views, as_seen}
+use Rattle.status_call.specs.Views.{AllAllowed, Allows, Views, as_seen}
 use Rattle.status_call.specs.Visits.{Visit}
 use Rattle.status_call.specs.declared.index_as_worktree.inputs.Settings.{Settings as StatusSettings}
 use Rattle.status_call.specs.declared.index_as_worktree.types.EntryStatus.{EntryStatus}
 use Rattle.status_call.specs.declared.index_as_worktree.types.Outcome.{Outcome}
 use Rattle.status_compare.specs.declared.error.Error.{Error}
+use Rattle.status_index.specs.declared.id.HashKind.{HashKind}
 use Rattle.status_index.specs.States.{index_of, timestamp_of}
 use Rattle.status_index.specs.declared.state.State.{State}
 use Rattle.git_status.specs.Failures.{failure_of_status}
@@ -31,7 +34,7 @@ use Rattle.git_status.specs.Printing.{IsUnwritten}
 use Rattle.git_status.specs.declared.asked.Settings.{Settings}
 use Rattle.git_status.specs.declared.answer.Report.{Report}
 use Rattle.git_status.specs.declared.failure.Failure.{Failure}
-use Rattle.git_status.specs.declared.failure.Failure.TheVariants.{Interrupted, Memory}
+use Rattle.git_status.specs.declared.failure.Failure.TheVariants.{Index, Interrupted, Memory}
 
 -- How a worktree is compared with an index after line ends are converted, which attribute files may be found, and the settings.
 pub record Asking (T U : Type 0) : Type 1 where
@@ -59,6 +62,14 @@ pub record ReadFile {T U : Type 0} (a : Asking T U) (bytes : List ℕ) : Type 0 
   pub file : IsFileOf a.settings.kind bytes version (index_of index) extensions
   pub time : timestamp_of index ≡ a.settings.timestamp
   pub converting : Converting a index
+
+-- The checksum of an index file is wrong.
+abbrev pub IsWrongChecksum : HashKind → List ℕ → Failure → Type 0
+IsWrongChecksum kind bytes f = (f ≡ Index Checksum) × (EndsWithChecksum kind bytes → ⊥)
+
+-- Why the command ends before anything is printed: memory ran out, or the index file's checksum is wrong.
+abbrev pub IsEarly : HashKind → List ℕ → Failure → Type 0
+IsEarly kind bytes f = (f ≡ Memory) ⊎ IsWrongChecksum kind bytes f
 
 -- Memory ran out, and nothing was printed.
 abbrev pub IsOutOfMemory : Option (List ℕ) → Failure → Option (List ℕ) → Type 0
@@ -107,6 +118,14 @@ module _ {T U : Type 0} where
     pub whole : is_some s.lines ≡ true → IfOk answer (λ o. o.interrupted ≡ false)
     pub alone : OneThreadSpawnsNone query s.options.thread_limit answer
 
+  -- A status of this index was computed by this query, and over any worktree by what may be seen. It ends early only if it may be
+  -- interrupted. With one thread none is refused.
+  pub record IsComputedBy (query : Query T U) (allows : Allows U) (index : State) (interruptible : Bool) (limit : Option ℕ) (answer : Result Outcome Error) (visits : List (Visit T U)) : Type 0 where
+    pub met : IsStatusReport query index [] answer visits
+    pub seen : ∥ IsStatusSeen query allows index [] answer visits ∥₁
+    pub whole : interruptible ≡ false → IfOk answer (λ o. o.interrupted ≡ false)
+    pub alone : OneThreadSpawnsNone query limit answer
+
   -- A status of this index was computed, and the command ended so.
   pub record IsStatusRun (query : Query T U) (may : MayReturn U) (index : State) (s : Settings) (old : Option (List ℕ)) (result : Result Report Failure) (new : Option (List ℕ)) : Type 0 where
     pub visits : List (Visit T U)
@@ -122,7 +141,7 @@ module _ {T U : Type 0} where
   -- The result of the command over the bytes of an index file that was read, and a worktree.
   unfoldable pub IsCommandRun : Asking T U → List ℕ → Option (List ℕ) → Result Report Failure → Option (List ℕ) → Type 0
   IsCommandRun a bytes old (Ok r) new = IsFileRun a bytes old (Ok r) new
-  IsCommandRun a bytes old (Err f) new = IsFileRun a bytes old (Err f) new ⊎ IsOutOfMemory old f new
+  IsCommandRun a bytes old (Err f) new = IsFileRun a bytes old (Err f) new ⊎ (IsEarly a.settings.kind bytes f × (new ≡ old))
 
   -- With exit status 0 the command found no difference, and with 1 it found one.
   abbrev pub IsExit : Asking T U → List ℕ → Bool → Option (List ℕ) → Option (List ℕ) → Type 0

@@ -125,6 +125,6 @@ where
     requires { IsRead asked.settings read.now }
     ensures { IsCommandRun (⟦<Asked<'a, W, S, P, A> as Question>⟧.asking asked.entry) read.now.bytes.now (O.contents output.old) result (O.contents output.new) }
 {
-    let Found { report, .. } = asked.print_index(rt, &read.file.state, false, output)?;
+    let Found { report, .. } = asked.print_index(rt, read, false, output)?;
     Ok(report)
 }

@@ -14,9 +14,9 @@ use crate::read::ReadIndex;
 use crate::refresh::Refreshed;
 use crate::status::{Computed, compute, filter_of};
 use git_attributes::{AttributeFiles, attributes_of};
+use git_index::IndexFileError;
 use status_base::worktree::{Pathspec, SubmoduleStatus, Worktree};
 use status_call::index_as_worktree::ApplyChange;
-use status_index::State;
 use std::io;
 use std::sync::Wait;
 use std::thread::Threads;
@@ -42,28 +42,34 @@ where
     W::File: Send,
     S::Output: Send,
 {
-    /// Prints the status of an index, with line ends converted by the attribute files. Returns what was found, with the
-    /// changes that a refresh makes if they are wanted.
+    /// Prints the status of an index file that was read, with line ends converted by the attribute files. Returns what was
+    /// found, with the changes that a refresh makes if they are wanted.
     ///
     /// # Errors
-    /// Memory runs out before the status; or the status's error, after the lines before it were printed; or the output can't
-    /// be written. If changes are wanted, memory may also run out after all lines were printed.
+    /// Memory runs out before the status, or the file's checksum is wrong; or the status's error, after the lines before it
+    /// were printed; or the output can't be written. If changes are wanted, memory may also run out after all lines were
+    /// printed.
     pub(crate) fn print_index<R: AllocGlobal + Threads + Wait, O: io::Write>(
         self,
         rt: &R,
-        index: &State,
+        read: &ReadIndex<'_>,
         wanted: bool,
         output: &mut O,
     ) -> Result<Found, Failure>
-        ensures { IsIndexFound wanted (⟦<Asked<'a, W, S, P, A> as Question>⟧.asking self.entry) index.now (O.contents output.old) result (O.contents output.new) }
+        requires { IsRead self.settings read.now }
+        ensures { IsIndexFound wanted (⟦<Asked<'a, W, S, P, A> as Question>⟧.asking self.entry) read.now.bytes.now read.now.file.state (O.contents output.old) result (O.contents output.new) }
     {
         let alloc = rt.alloc();
+        let index = &read.file.state;
         let Settings { lines, notes, .. } = self.settings;
         let files = self.attributes.find(alloc, index)?;
         let attributes = attributes_of(alloc, &files)?;
         let filter = filter_of(&attributes, index, &self.settings);
-        let (attributes, index) = (filter.attributes, filter.index);
-        let Computed { recorder, answer } = compute(rt, index, filter, self);
+        let attributes = filter.attributes;
+        let Some(computed) = compute(rt, read, filter, self) else {
+            return Err(Failure::Index(IndexFileError::Checksum));
+        };
+        let Computed { recorder, answer } = computed;
         let records = recorder.records.as_slice();
         let unconverted = noted_paths(alloc, notes, attributes, records);
         let report = print_answer(alloc, lines, records, unconverted, answer, output)?;
@@ -102,7 +108,7 @@ where
             report,
             changes,
             is_whole,
-        } = self.print_index(rt, &read.file.state, true, output)?;
+        } = self.print_index(rt, &*read, true, output)?;
         let mut refreshed = Refreshed {
             status: u8::from(report.dirty),
             bytes: None,

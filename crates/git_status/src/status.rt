@@ -1,21 +1,31 @@
 //! The status of an index, as the command asks for it.
 
-ghost use Rattle.std.specs.Prelude.{◌≡◌};
-ghost use Rattle.status_call.specs.Inputs.{settings};
+ghost use Rattle.std.specs.Prelude.{◌≡◌, ◌↔◌, IfSome, IsTrue, None, is_some, true, ⊤};
 ghost use Rattle.status_call.specs.RecorderVisits.{visits_of};
-ghost use Rattle.git_status.specs.Runs.{IsComputed};
+ghost use Rattle.git_index.specs.Refusals.{EndsWithChecksum};
+ghost use Rattle.git_status.specs.Reads.{IsRead};
+ghost use Rattle.git_status.specs.Runs.{IsComputed, IsComputedBy};
+ghost use Rattle.status_call.specs.Inputs.{settings};
 
 use crate::asked::{Asked, Question, Settings};
+use crate::read::ReadIndex;
 use crate::watcher::Watcher;
 use git_attributes::{AttributeFiles, Attributes, LineEnds};
-use status_base::worktree::{MemoryObjects, NoLister, Pathspec, SubmoduleStatus, Worktree};
-use status_call::index_as_worktree::inputs::Inputs;
+use git_index::ends_with_checksum;
+use status_base::worktree::{
+    GuardedWorktree, MemoryObjects, NoLister, Pathspec, SubmoduleStatus, Worktree,
+};
+use status_call::index_as_worktree::decider::Decider;
+use status_call::index_as_worktree::inputs::{self, Inputs};
+use status_call::index_as_worktree::status_by::status_by;
+use status_call::index_as_worktree::step::Decide;
 use status_call::index_as_worktree::traits::FastEq;
-use status_call::index_as_worktree::{Context, Error, Outcome, Recorder, index_as_worktree};
-use status_index::State;
+use status_call::index_as_worktree::workers::Execution;
+use status_call::index_as_worktree::{Error, Outcome, Recorder};
+use status_index::{HashKind, State};
 use std::sync::Wait;
 use std::sync::atomic::AtomicBool;
-use std::thread::Threads;
+use std::thread::{Threads, join};
 
 /// A worktree, submodules and paths, with comparison by sizes and ids, conversion of line ends, and no listings.
 pub(crate) type Compared<'a, 'b, 'files, 'index, W, S, P> = Inputs<
@@ -50,12 +60,69 @@ pub(crate) fn filter_of<'b, 'files, 'index>(
 
 /// A status of an index: its records and its result.
 #[derive(Drop)]
-pub(crate) struct Computed<'index, U> {
-    pub(crate) recorder: Recorder<'index, (), U>,
+pub(crate) struct Computed<'index, T, U> {
+    pub(crate) recorder: Recorder<'index, T, U>,
     pub(crate) answer: Result<Outcome, Error>,
 }
 
-/// Computes the status of an index. That of a quiet command ends early, after the first entry that differs.
+/// Computes the status of an index. If it may be interrupted, it ends early, after the first entry that differs.
+fn compute_by<'index, R: Threads + Wait, D: Decide + Send + Drop>(
+    rt: &R,
+    index: &'index State,
+    mut decider: D,
+    execution: &Execution<'_>,
+) -> Computed<'index, D::Content, D::Submodule>
+where
+    D::Content: Send + Drop,
+    D::Submodule: Send + Drop,
+    ensures { IsComputedBy (D.query decider) (D.allows decider) index.now (is_some execution.now.interrupt) execution.now.thread_limit result.answer (visits_of result.recorder) }
+{
+    let mut watcher = Watcher {
+        recorder: Recorder::new(execution.alloc),
+        stop: execution.interrupt,
+    };
+    let answer = status_by(rt, index, &mut decider, execution, &mut watcher);
+    let Watcher { recorder, .. } = watcher;
+    Computed { recorder, answer }
+}
+
+/// Computes the status of an index file that was read, and its checksum next to it, unless that was compared before. None if
+/// the checksum is wrong.
+fn compute_checked<'index, R: Threads + Wait, D: Decide + Send + Drop>(
+    rt: &R,
+    kind: HashKind,
+    read: &'index ReadIndex<'_>,
+    decider: D,
+    execution: &Execution<'_>,
+) -> Option<Computed<'index, D::Content, D::Submodule>>
+where
+    D::Content: Send + Drop + 'index,
+    D::Submodule: Send + Drop + 'index,
+    requires { read.now.is_checked ≡ true → EndsWithChecksum kind read.now.bytes.now }
+    ensures checked { IfSome result (λ _. EndsWithChecksum kind read.now.bytes.now) }
+    ensures computed { IfSome result (λ c. IsComputedBy (D.query decider) (D.allows decider) read.now.file.state (is_some execution.now.interrupt) execution.now.thread_limit c.answer (visits_of c.recorder)) }
+    ensures wrong { result ≡ None → EndsWithChecksum kind read.now.bytes.now → ⊥ }
+{
+    let index = &read.file.state;
+    if read.is_checked {
+        return Some(compute_by(rt, index, decider, execution));
+    }
+    let bytes = read.bytes;
+    let (is_right, computed) = join(
+        rt,
+        move || -> bool
+            ensures { IsTrue result ↔ EndsWithChecksum kind bytes.entry.now }
+        { ends_with_checksum(kind, bytes) },
+        // A clause of its own brings the bounds of this function into the closure.
+        move ||
+            requires { ⊤ }
+        { compute_by(rt, index, decider, execution) },
+    );
+    if is_right { Some(computed) } else { None }
+}
+
+/// Computes the status of an index file that was read, as the command asks for it. That of a quiet command ends early. None if
+/// the file's checksum is wrong.
 pub(crate) fn compute<
     'index,
     'a,
@@ -68,14 +135,17 @@ pub(crate) fn compute<
     A: AttributeFiles,
 >(
     rt: &R,
-    index: &'index State,
+    read: &'index ReadIndex<'_>,
     filter: LineEnds<'b, 'files, 'index>,
     asked: Asked<'a, W, S, P, A>,
-) -> Computed<'index, S::Output>
+) -> Option<Computed<'index, (), S::Output>>
 where
     W::File: Send,
-    S::Output: Send,
-    ensures { IsComputed ((⟦<Asked<'a, W, S, P, A> as Question>⟧.asking asked.entry).query filter.entry (settings asked.entry.settings.options index.now)) ((⟦<Asked<'a, W, S, P, A> as Question>⟧.asking asked.entry).may_return) index.now asked.entry.settings result.answer (visits_of result.recorder) }
+    S::Output: Send + 'index,
+    requires { IsRead asked.settings read.now }
+    ensures checked { IfSome result (λ _. EndsWithChecksum asked.entry.settings.kind read.now.bytes.now) }
+    ensures computed { IfSome result (λ c. IsComputed ((⟦<Asked<'a, W, S, P, A> as Question>⟧.asking asked.entry).query filter.entry (settings asked.entry.settings.options read.now.file.state)) ((⟦<Asked<'a, W, S, P, A> as Question>⟧.asking asked.entry).may_return) read.now.file.state asked.entry.settings c.answer (visits_of c.recorder)) }
+    ensures wrong { result ≡ None → EndsWithChecksum asked.entry.settings.kind read.now.bytes.now → ⊥ }
 {
     let alloc = rt.alloc();
     let flag = AtomicBool::new(false);
@@ -83,28 +153,21 @@ where
         Some(_) => None,
         None => Some(&flag),
     };
-    let mut watcher = Watcher {
-        recorder: Recorder::new(alloc),
-        stop,
-    };
-    let context = Context {
+    let options = asked.settings.options;
+    let inputs = Inputs {
+        worktree: GuardedWorktree::new(asked.worktree, options.fscache),
+        compare: FastEq,
+        submodule: asked.submodules,
+        objects: MemoryObjects::new(alloc),
         pathspec: asked.paths,
         filter,
         lister: NoLister,
-        should_interrupt: stop,
     };
-    let answer = index_as_worktree(
-        rt,
+    let decider = Decider::new(
         alloc,
-        index,
-        asked.worktree,
-        &mut watcher,
-        FastEq,
-        asked.submodules,
-        MemoryObjects::new(alloc),
-        context,
-        asked.settings.options,
+        inputs,
+        inputs::Settings::of(&options, &read.file.state),
     );
-    let Watcher { recorder, .. } = watcher;
-    Computed { recorder, answer }
+    let execution = Execution::of(alloc, &options, stop);
+    compute_checked(rt, asked.settings.kind, read, decider, &execution)
 }

@@ -1,49 +1,19 @@
-use Rattle.std.proofs.Common.{refl}
-use Rattle.std.proofs.MapsCrossing.{crosses as maps_cross}
-use Rattle.git_attributes.proofs.Sent.{filter_crosses}
-use Rattle.status_call.specs.RecorderVisits.{visits_of}
-use Rattle.git_status.proofs.Runs.{computed_from, none_not_some}
+use Rattle.std.proofs.Common.{◌≡◌, ◌∙◌, ap, is_some, false}
+use Rattle.git_status.proofs.Runs.{computed_as, none_not_some, some_computed}
 use Rattle.git_status.proofs.status.compute.Goals as goal
 use Rattle.git_status.proofs.status.compute.Goals.{in-Some, in-None}
 
-pub returns : goal.returns
-returns g c =
+pub returns-clause-computed : goal.returns-clause-computed
+returns-clause-computed g c =
     let s = c.args.asked.settings in
-    let call = c.index_as_worktree-answer in
-    computed_from _ _ c.args.index.now s _ (visits_of call.new.collector.recorder) call.result c.new.ensures (rw (c.new-2.ensures) at (call.ensures.all)) (rw (c.new-2.ensures) at (call.ensures.seen))
-    (λ some. call.ensures.uninterrupted (elim c.match-asked.branch [
-      | in-Some w ↦ w.stop-is
+    let is = c.new-decider.ensures in
+    some_computed c.compute_checked.result _ _
+    (λ made. computed_as _ _ c.args.read.now.file.state s _ _ _ _ made.answer _
+    (rw (c.new.ensures, c.new-2.ensures, c.of.ensures) at is.query)
+    (λ e v h. rw (is.inputs, is.settings, c.new.ensures, c.new-2.ensures, c.of.ensures) at h)
+    (λ some. elim c.match-asked.branch [
+      | in-Some w ↦ ap is_some (c.of-execution.ensures.interrupt ∙ w.stop-is)
       | in-None w ↦ absurd (none_not_some s.lines w.in-None.is some)
-    ]))
-    call.ensures.alone
-
--- what is shared with threads, in the order of the call's types: comparison, submodules, blobs, paths, line ends, and so on
-pub index_as_worktree-answer-requires : goal.index_as_worktree-answer-requires
-index_as_worktree-answer-requires g c κs = (
-  search filter_crosses depth 60,
-  (
-    search filter_crosses depth 60,
-    (
-      search (filter_crosses, maps_cross) depth 60,
-      (
-        search filter_crosses depth 60,
-        (
-          search filter_crosses depth 60,
-          (
-            search filter_crosses depth 60,
-            (
-              search filter_crosses depth 60,
-              (
-                search filter_crosses depth 60,
-                (
-                  search filter_crosses depth 60,
-                  (search filter_crosses depth 60, (refl, tt)),
-                ),
-              ),
-            ),
-          ),
-        ),
-      ),
-    ),
-  ),
-)
+    ])
+    c.of-execution.ensures.thread_limit)
+    c.compute_checked.ensures.computed

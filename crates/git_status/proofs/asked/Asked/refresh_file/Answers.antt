@@ -28,7 +28,7 @@ pub changed_bytes-requires-clause-inside : goal.changed_bytes-requires-clause-in
 changed_bytes-requires-clause-inside g c =
     let file = c.args.read.now.file in
     subst (λ changes. AreInside changes (index_of file.state)) (sym c.deref.ensures.value)
-    (index_inside _ file.state _ c.in_ok-report.field-0 _ (rw c.in_ok-report.was at c.print_index.ensures))
+    (index_inside _ c.args.read.now.bytes.now file.state _ c.in_ok-report.field-0 _ (rw c.in_ok-report.was at c.print_index.ensures))
 
 pub returns-in_err-bytes : goal.returns-in_err-bytes
 returns-in_err-bytes g c =
