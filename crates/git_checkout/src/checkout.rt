@@ -93,67 +93,54 @@ where
     R::File: Send,
     R::Dir: Send,
 {
+    let alloc = rt.alloc();
     let repository = Repository::discover(rt, request.folder)?;
+    let top = repository.top.as_str();
     let selected = selected_by(rt, &repository, &request.paths)?;
+    let tops = tops_of(alloc, &selected)?;
     let Some(file) = read_index_file(rt, &repository)? else {
-        check_without_index(rt, repository.top.as_str(), &selected)?;
+        check_without_index(rt, top, &selected)?;
         return Ok(0);
     };
-    run_over_index(rt, request, &repository, &selected, &file, output, faults)
-}
-
-/// Does the same for the index file of a repository, and the paths that are selected.
-///
-/// # Errors
-/// The index or a setting can't be read, a path selects nothing, or the index can't be refreshed.
-fn run_over_index<R: AllocGlobal + Env + Files + Sync + Threads + Wait, O: io::Write, E: io::Write>(
-    rt: &R,
-    request: &Request<'_>,
-    repository: &Repository,
-    selected: &[Selected<'_>],
-    file: &FoundIndex,
-    output: &mut O,
-    faults: &mut E,
-) -> Result<u8, Refused>
-where
-    R::File: Send,
-    R::Dir: Send,
-{
-    let alloc = rt.alloc();
-    let top = repository.top.as_str();
-    let tops = tops_of(alloc, selected)?;
-    let settings = settings_of(repository, request, file.timestamp);
+    let settings = settings_of(&repository, request, file.timestamp);
     let read = if may_check_later(request) {
         ReadIndex::unchecked(alloc, &file.bytes, &settings)?
     } else {
         ReadIndex::of(alloc, &file.bytes, &settings)?
     };
     let worktree = worktree_at(rt, top, request.enter)?;
-    check_each(alloc, &read.file.state, &worktree, selected)?;
+    check_each(alloc, &read.file.state, &worktree, &selected)?;
     let ignored = IgnoredSubmodules::read(rt, top, &repository.config, &read.file.state)?;
-    let exceptions = Exceptions::of(alloc, &read.file.state, &worktree, selected, &ignored)?;
+    let Exceptions {
+        left_out,
+        intended,
+        illformed,
+    } = Exceptions::of(alloc, &read.file.state, &worktree, &selected, &ignored)?;
     let unread = AtomicBool::new(false);
+    let attributes = GitAttributeFiles::new(rt, &worktree, &repository, &unread)?;
     let asked = Asked {
         settings,
         worktree: &worktree,
         submodules: SubmoduleHeads::new(rt, top, &ignored),
         paths: Paths {
             tops: &tops,
-            left_out: &exceptions.left_out,
+            left_out: &left_out,
         },
-        attributes: GitAttributeFiles::new(rt, &worktree, repository, &unread)?,
+        attributes,
     };
-    let begun = request
-        .refresh
-        .then(|| time_of_lock(rt, repository.index.as_str()));
-    let untracked = untracked_of(alloc, &read.file.state, selected)?;
+    let begun = if request.refresh {
+        Some(time_of_lock(rt, repository.index.as_str()))
+    } else {
+        None
+    };
+    let untracked = untracked_of(alloc, &read.file.state, &selected)?;
     let nested = Nested {
         top,
-        intended: &exceptions.intended,
+        intended: &intended,
         wanted: Wanted {
             all: !selected.is_empty(),
             json: request.json,
-            left_out: &exceptions.left_out,
+            left_out: &left_out,
             untracked: &untracked,
         },
     };
@@ -161,16 +148,16 @@ where
     if compared.status == FAILED {
         return Ok(FAILED);
     }
-    note_unread(request, repository, &ignored, faults);
-    if !exceptions.illformed.is_empty() {
-        return Ok(print_illformed(alloc, &exceptions.illformed, faults));
+    note_unread(request, &repository, &ignored, faults);
+    if !illformed.is_empty() {
+        return Ok(print_illformed(alloc, &illformed, faults));
     }
     let Some(begun) = begun else {
         return Ok(compared.status);
     };
     let refresh = Refresh {
-        repository,
-        old: file,
+        repository: &repository,
+        old: &file,
         begun,
         unread: unread.load(Ordering::Relaxed),
     };
