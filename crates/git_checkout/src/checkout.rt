@@ -1,5 +1,6 @@
 //! The status of the checkout that has a folder.
 
+ghost use Rattle.std.specs.Prelude.{IfOk};
 ghost use Rattle.git_status.specs.Reads.{IsRead};
 
 use crate::index_file::{FoundIndex, read_index_file};
@@ -15,7 +16,7 @@ use git_repository::{
 };
 use git_status::lines::LineStyle;
 use git_status::{
-    Asked, Paths, ReadIndex, Refreshed, Settings, print_failure, run_dirty, run_refresh,
+    Asked, Failure, Paths, ReadIndex, Refreshed, Settings, print_failure, run_dirty, run_refresh,
 };
 use status_base::worktree::{DiskWorktree, Pathspec, StatFields, SubmoduleStatus, Worktree};
 use status_call::index_as_worktree::{Capabilities, Options};
@@ -103,11 +104,7 @@ where
         return Ok(0);
     };
     let settings = settings_of(&repository, request, file.timestamp);
-    let read = if may_check_later(request) {
-        ReadIndex::unchecked(alloc, &file.bytes, &settings)?
-    } else {
-        ReadIndex::of(alloc, &file.bytes, &settings)?
-    };
+    let read = read_for(request, alloc, &file.bytes, &settings)?;
     let worktree = worktree_at(rt, top, request.enter)?;
     check_each(alloc, &read.file.state, &worktree, &selected)?;
     let ignored = IgnoredSubmodules::read(rt, top, &repository.config, &read.file.state)?;
@@ -164,9 +161,23 @@ where
     refresh.end(rt, compared)
 }
 
-/// Returns whether the status may compare the index's checksum: nothing that depends on the index is printed before it.
-fn may_check_later(request: &Request<'_>) -> bool {
-    request.paths.is_empty() && !request.explain
+/// Reads the index file for a request. The status compares its checksum, unless something that depends on the index may be
+/// printed before.
+///
+/// # Errors
+/// The bytes aren't an index file, or out of memory.
+fn read_for<'b>(
+    request: &Request<'_>,
+    alloc: Global,
+    bytes: &'b [u8],
+    settings: &Settings,
+) -> Result<ReadIndex<'b>, Failure>
+    ensures { IfOk result (IsRead settings.now) }
+{
+    if request.explain || !request.paths.is_empty() {
+        return ReadIndex::of(alloc, bytes, settings);
+    }
+    ReadIndex::unchecked(alloc, bytes, settings)
 }
 
 /// Checks the selected paths in a repository without an index file, which has no entries.
