@@ -5,12 +5,13 @@ use Rattle.std.specs.Prelude.{false}
 use Rattle.git_attributes.specs.declared.line_ends.LineEnds.{LineEnds}
 use Rattle.status_base.specs.Looked.{guarded}
 use Rattle.status_base.specs.Objects.{Contents}
+use Rattle.status_base.specs.declared.worktree.guarded.GuardedWorktree.{GuardedWorktree}
 use Rattle.status_base.specs.declared.worktree.lister.NoLister.{NoLister}
 use Rattle.status_call.specs.declared.index_as_worktree.inputs.Inputs.{Inputs}
 use Rattle.status_compare.specs.declared.compare.FastEq.{FastEq}
 use Rattle.git_status.specs.declared.asked.Asked.{Asked}
 
-abbrev pub asked_inputs : {W S P A : Type 0} → Asked W S P A → LineEnds → Inputs W FastEq S Contents P LineEnds NoLister
+abbrev pub asked_inputs : {W S P A : Type 0} → Asked W S P A → LineEnds → Inputs (GuardedWorktree W) FastEq S Contents P LineEnds NoLister
 asked_inputs asked filter = record {
   worktree = guarded asked.worktree false;
   compare = record {};

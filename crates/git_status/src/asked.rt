@@ -66,8 +66,8 @@ impl<'a, W: Worktree, S: SubmoduleStatus, P: Pathspec, A: AttributeFiles> Questi
       are_files = A.are_files asked.attributes;
       may_return = record {
         stat = W.may_stat asked.worktree.now;
-        opened = W.may_open asked.worktree.now;
-        linked = W.may_link asked.worktree.now;
+        opened = λ path _. W.may_open asked.worktree.now path;
+        linked = λ path _. W.may_link asked.worktree.now path;
         listed = ⟦<NoLister as Lister>⟧.may_list (record {});
         found = ⟦<MemoryObjects as Find>⟧.may_find ids.empty;
         reported = S.may_report asked.submodules;

@@ -29,8 +29,7 @@ use std::thread::{Threads, join};
 
 /// A worktree, submodules and paths, with comparison by sizes and ids, conversion of line ends, and no listings.
 pub(crate) type Compared<'a, 'b, 'files, 'index, W, S, P> = Inputs<
-    'a,
-    W,
+    GuardedWorktree<'a, W>,
     FastEq,
     S,
     MemoryObjects,

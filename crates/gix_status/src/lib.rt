@@ -42,7 +42,7 @@ pub mod walk {
 /// The worktree, the interfaces that a caller passes to a status, and walks and trackers.
 pub mod worktree {
     pub use status_base::worktree::{
-        AllPaths, ByteText, DiskFile, DiskWorktree, Fault, Find, FindError, GuardedWorktree,
+        AllPaths, ByteText, DiskFile, DiskWorktree, Fault, Find, FindError, Guard, GuardedWorktree,
         Lister, Listing, MemoryFile, MemoryObjects, MemoryWorktree, Metadata, NoFilter, NoLister,
         NoSubmodules, Node, NodeKind, Pathspec, Point, Prefix, ReadBytes, StatFields,
         SubmoduleFault, SubmoduleStatus, TimeError, ToGit, ToGitOutcome, TreeError, Worktree, disk,

@@ -13,15 +13,14 @@ pub record IsMet (may : MayStat) (listed : Bool) (path : List ℕ) (node : Metad
   pub above : IsOpen may path
   pub here : listed ≡ false → may path (Ok node)
 
--- A node of this kind was met at a path.
-pub record IsMetAs (may : MayStat) (listed : Bool) (path : List ℕ) (kind : NodeKind) : Type 0 where
-  pub node : Metadata
+-- A node, which is of this kind, was met at a path.
+pub record IsMetAs (may : MayStat) (listed : Bool) (path : List ℕ) (node : Metadata) (kind : NodeKind) : Type 0 where
   pub met : IsMet may listed path node
   pub is : node.kind ≡ kind
 
--- `lstat` was called for a path and the directories above it, and a node of this kind was met there.
-abbrev pub IsLookedAt : MayStat → Bool → List ℕ → NodeKind → Type 0
-IsLookedAt may listed path kind = ∥ IsMetAs may listed path kind ∥₁
+-- `lstat` was called for a path and the directories above it, and this node, which is of this kind, was met there.
+abbrev pub IsLookedAt : MayStat → Bool → List ℕ → Metadata → NodeKind → Type 0
+IsLookedAt may listed path node kind = ∥ IsMetAs may listed path node kind ∥₁
 
 -- The kind of a node that is read: a link, or a file.
 abbrev pub kind_read : Bool → NodeKind

@@ -27,7 +27,7 @@ read_or None reads h = refl
 module _ {T U : Type 0} (may : MayReturn U) (settings : Settings) (conversion : Content → List ℕ → Conversion) (answers : IndexEntry → ℕ → Readings → Result (Option T) Error)
     (counts : IndexEntry → ℕ → Readings → Reads → Option Reads) (e : IndexEntry) (n : Metadata) (is_link : Bool) (links : is_link ≡ reads_link settings.fs.symlink e.mode n.kind) where
   abbrev Files : Reading → Type 0
-  Files = IsFileReading (may.opened e.path) (may.linked e.path) is_link (λ content. conversion content e.path) n.len
+  Files = IsFileReading (may.opened e.path n) (may.linked e.path n) is_link (λ content. conversion content e.path) n.len
 
   abbrev Blobs : Result (List ℕ) Error → Type 0
   Blobs = IsBlobReading (may.found e.id)

@@ -80,13 +80,13 @@ fits symlink x n modes.Commit kinds.Other same other = absurd same
 fits symlink x n modes.Dir kinds.Other same other = absurd same
 
 module _ (may : MayStat) (listed : Bool) (path : List ℕ) (symlink x : Bool) (mode : Mode) (n : Metadata) (met : ∥ IsNodeMet may listed path n ∥₁) where
-  looked : IsSameType (mode_change symlink x mode n) → IsLookedAt may listed path (kind_read (reads_link symlink mode n.kind))
-  looked same = ∥∥₁_map met (λ m. record { node = n; met = m.met; is = fits symlink x n mode n.kind same m.kind })
+  looked : IsSameType (mode_change symlink x mode n) → IsLookedAt may listed path n (kind_read (reads_link symlink mode n.kind))
+  looked same = ∥∥₁_map met (λ m. record { met = m.met; is = fits symlink x n mode n.kind same m.kind })
 
   -- A node without a change was met as a node of the kind that is read.
-  pub looked_unchanged : mode_change symlink x mode n ≡ None → IsLookedAt may listed path (kind_read (reads_link symlink mode n.kind))
+  pub looked_unchanged : mode_change symlink x mode n ≡ None → IsLookedAt may listed path n (kind_read (reads_link symlink mode n.kind))
   looked_unchanged is = looked (subst IsSameType (sym is) tt)
 
   -- So was one whose executable bit changed.
-  pub looked_executable : mode_change symlink x mode n ≡ Some ExecutableBit → IsLookedAt may listed path (kind_read (reads_link symlink mode n.kind))
+  pub looked_executable : mode_change symlink x mode n ≡ Some ExecutableBit → IsLookedAt may listed path n (kind_read (reads_link symlink mode n.kind))
   looked_executable is = looked (subst IsSameType (sym is) tt)

@@ -22,12 +22,13 @@ use Rattle.status_call.specs.declared.index_as_worktree.lookup.AtPath.TheVariant
 use Rattle.status_call.specs.declared.index_as_worktree.types.EntryStatus.{EntryStatus}
 use Rattle.status_call.specs.Counts.{calls_lstat, is_accepted, is_compared_case, is_racy_case, reads_of_found}
 use Rattle.status_call.specs.EntryParts.{IsCaseDecided, IsLook, IsOfCase, found_presence}
-use Rattle.status_call.specs.EntrySights.{IsContentAllowed, IsDirectorySeen, IsLookSeen, IsNodeListed, IsSubmoduleSeen, IsViewAllowed}
+use Rattle.status_call.specs.EntrySights.{IfPresent, IsContentAllowed, IsDirectorySeen, IsLookSeen, IsNodeListed, IsSubmoduleSeen, IsViewAllowed}
 use Rattle.status_call.specs.MayReturn.{MayReturn}
 use Rattle.status_call.specs.Query.{Query}
 use Rattle.status_call.specs.Status.{Case, Found, answer, cached_or, case_of_content, case_of_found, compared, directory, directory_case, found, found_by, found_node, gone, in_submodule, is_trusted, readings, refused, unchanged}
 use Rattle.status_call.specs.Views.{IsSeenDecided, View, as_seen, nothing_seen}
 use Rattle.status_call.proofs.EntryCases.{calls_comparer, counted_look, is_decided}
+use Rattle.status_call.proofs.ViewLemmas.{if_present}
 
 module _ (may : MayStat) (may_list : MayList) (fscache : Bool) (path : List ℕ) where
   -- If no directory bars the way, the node decides: one that a listing knows, or the result of `lstat`.
@@ -127,7 +128,7 @@ module _ {T U : Type 0} (q : Query T U) (e : IndexEntry) where
           stats = s.allowed;
           unlisted = s.unlisted;
           node = s.node;
-          content = record { opened = free.content.opened; linked = free.content.linked; blob = free.content.blob };
+          content = subst (λ (k : Found). IfPresent k (λ n. IsContentAllowed may e n refused_view)) (sym h.1) tt;
           submodule = λ there _. refused_directory _ (found (as_seen q (λ _. refused_view)) e) h.0 h.1 there;
         };
         decided = inl (ap (λ (x : Found). answer e.path (case_of_found (as_seen q (λ _. refused_view)) e x)) h.1 ∙ ap (λ (x : Error). Err x) (sym h.2));
@@ -142,7 +143,7 @@ module _ {T U : Type 0} (q : Query T U) (e : IndexEntry) where
     abbrev pub view_with : View U → View U
     view_with v = record v { lstat = s.lstat; listed = s.listed }
 
-    pub seen_found : (v : View U) → IsContentAllowed may e v → (found_presence p ≡ directory → IsTrue (is_submodule e.mode) → may.reported e v.submodule) → (r : Result (Decided T U) Error)
+    pub seen_found : (v : View U) → IfPresent (found_presence p) (λ n. IsContentAllowed may e n v) → (found_presence p ≡ directory → IsTrue (is_submodule e.mode) → may.reported e v.submodule) → (r : Result (Decided T U) Error)
         → IsCaseDecided e.path (case_of_found (as_seen q (λ _. view_with v)) e (found_presence p)) look.lstat_called (Some (reads_of_found (as_seen q (λ _. view_with v)) e (found_presence p))) r
         → IsSeenDecided (IsViewAllowed may fscache) q e r
     seen_found v content said r h =
@@ -150,7 +151,7 @@ module _ {T U : Type 0} (q : Query T U) (e : IndexEntry) where
         let same : found (as_seen q (λ _. view)) e ≡ found_presence p = s.look.0 ∙ ap found_presence is in
         record {
           view = view;
-          allowed = record { stats = s.allowed; unlisted = s.unlisted; node = s.node; content = record { opened = content.opened; linked = content.linked; blob = content.blob }; submodule = λ there. said (sym same ∙ there) };
+          allowed = record { stats = s.allowed; unlisted = s.unlisted; node = s.node; content = subst (λ (k : Found). IfPresent k (λ n. IsContentAllowed may e n view)) (sym same) (if_present (found_presence p) (λ n h. record { opened = h.opened; linked = h.linked; blob = h.blob }) content); submodule = λ there. said (sym same ∙ there) };
           decided = is_decided (as_seen q (λ _. view)) e (found_presence p) look.lstat_called (Some (reads_of_found (as_seen q (λ _. view)) e (found_presence p))) r
               same (sym s.look.1) (λ _. refl) h;
         }
@@ -160,7 +161,7 @@ module _ {T U : Type 0} (q : Query T U) (e : IndexEntry) where
     directory_seen there free d (inl h) = absurd (let x = h in cc)
     directory_seen there free d (inr said) =
         let v : View U = record nothing_seen { submodule = said.said } in
-        seen_found v (record { opened = free.content.opened; linked = free.content.linked; blob = free.content.blob }) (λ _ yes. said.allowed yes) (Ok (record d { lstat_called = look.lstat_called }))
+        seen_found v (subst (λ (a : AtPath). IfPresent (found_presence a) (λ n. IsContentAllowed may e n v)) (sym there) tt) (λ _ yes. said.allowed yes) (Ok (record d { lstat_called = look.lstat_called }))
         (subst (λ (a : AtPath). IsCaseDecided e.path (case_of_found (as_seen q (λ _. view_with v)) e (found_presence a)) look.lstat_called (Some (reads_of_found (as_seen q (λ _. view_with v)) e (found_presence a))) (Ok (record d { lstat_called = look.lstat_called })))
         (sym there) (counted_look e.path (directory_case e said.said) look.lstat_called (Some no_reads) d said.decided))
 
@@ -170,7 +171,7 @@ module _ {T U : Type 0} (q : Query T U) (e : IndexEntry) where
         record { view = nothing_seen; allowed = free; decided = inr same }
     directory_refused there free x (inr said) =
         let v : View U = record nothing_seen { submodule = said.said } in
-        seen_found v (record { opened = free.content.opened; linked = free.content.linked; blob = free.content.blob }) (λ _ yes. said.allowed yes) (Err x)
+        seen_found v (subst (λ (a : AtPath). IfPresent (found_presence a) (λ n. IsContentAllowed may e n v)) (sym there) tt) (λ _ yes. said.allowed yes) (Err x)
         (subst (λ (a : AtPath). IsCaseDecided e.path (case_of_found (as_seen q (λ _. view_with v)) e (found_presence a)) look.lstat_called (Some (reads_of_found (as_seen q (λ _. view_with v)) e (found_presence a))) (Err x)) (sym there) said.decided)
 
 -- The decision of a submodule's entry by what its submodule may report.

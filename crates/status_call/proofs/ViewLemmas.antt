@@ -17,13 +17,13 @@ use Rattle.status_call.specs.declared.index_as_worktree.counts.Totals.{Totals}
 use Rattle.status_call.specs.declared.index_as_worktree.types.EntryStatus.{EntryStatus}
 use Rattle.status_call.specs.declared.index_as_worktree.types.Finding.{Finding}
 use Rattle.status_call.specs.Considered.{same_path}
-use Rattle.status_call.specs.EntrySights.{IsNodeListed, IsViewAllowed}
+use Rattle.status_call.specs.EntrySights.{IfPresent, IsNodeListed, IsViewAllowed, node_seen}
 use Rattle.status_call.specs.MayReturn.{MayReturn, ReturnsWithin}
 use Rattle.status_call.specs.Counts.{calls_lstat, counts_in, is_looked_at, is_racy_case, is_update, reads_in, reads_of}
 use Rattle.status_call.specs.Pieces.{IsAsSpecified, IsFaultAt}
 use Rattle.status_call.specs.Query.{Query}
 use Rattle.status_call.specs.Records.{fault_by, faults_in, record_by, records_in, verdict}
-use Rattle.status_call.specs.Status.{case_of}
+use Rattle.status_call.specs.Status.{Found, case_of, directory, nothing, present, refused}
 use Rattle.status_call.specs.Views.{View, Views, Allows, AllAllowed, as_seen}
 use Rattle.status_call.proofs.IndexOrder.{less_at, path_same, same_from_path, stage_rises}
 use Rattle.status_call.proofs.Counts.{same_counts}
@@ -76,17 +76,24 @@ pub node_within : {less more : MayList} (path : List ℕ) → ((directory : List
 node_within path within None h = tt
 node_within path within (Some n) h = record { listing = h.listing; allowed = within (directory_of path) h.listing h.allowed; node = h.node }
 
+-- A fact of a node that is present.
+pub if_present : {P Q : Metadata → Type 0} (k : Found) → ((n : Metadata) → P n → Q n) → IfPresent k P → IfPresent k Q
+if_present nothing f h = tt
+if_present (refused x) f h = tt
+if_present directory f h = tt
+if_present (present n) f h = f n h
+
 -- A view by which less may be returned is allowed if more may be.
 pub allowed_within : {U : Type 0} {less more : MayReturn U} (e : IndexEntry) (view : View U) (fscache : Bool) → ReturnsWithin less more → IsViewAllowed less fscache e view → IsViewAllowed more fscache e view
 allowed_within e view fscache within h = record {
   stats = λ path. within.stat path (view.lstat path) (h.stats path);
   unlisted = h.unlisted;
   node = node_within e.path within.listed view.listed h.node;
-  content = record {
-    opened = within.opened e.path view.opened h.content.opened;
-    linked = within.linked e.path view.linked h.content.linked;
-    blob = within.found e.id view.blob h.content.blob;
-  };
+  content = if_present (node_seen e view) (λ n c. record {
+    opened = within.opened e.path n view.opened c.opened;
+    linked = within.linked e.path n view.linked c.linked;
+    blob = within.found e.id view.blob c.blob;
+  }) h.content;
   submodule = λ there yes. within.reported e view.submodule (h.submodule there yes);
 }
 

@@ -1,5 +1,5 @@
 -- One entry over any worktree: its look-up, the comparison of its content, and its submodule.
-use Rattle.std.specs.Prelude.{◌≡◌, ◌⊎◌, ℕ, Bool, true, false, IsTrue, List, [], Option, Some, None, IfSome, unwrap_or, Result, Err}
+use Rattle.std.specs.Prelude.{◌≡◌, ◌⊎◌, ⊤, ℕ, Bool, true, false, IsTrue, List, [], Option, Some, None, IfSome, unwrap_or, Result, Err}
 use Rattle.status_index.specs.Content.{Content}
 use Rattle.status_index.specs.declared.stat.Metadata.{Metadata}
 use Rattle.status_index.specs.declared.stat.Stat.{Stat}
@@ -22,18 +22,25 @@ use Rattle.status_call.specs.EntryParts.{IsCaseDecided, IsContentCompared, IsCon
 use Rattle.status_call.specs.declared.index_as_worktree.types.EntryStatus.{EntryStatus}
 use Rattle.status_call.specs.MayReturn.{MayReturn}
 use Rattle.status_call.specs.Query.{Query}
-use Rattle.status_call.specs.Status.{Found, answer, cached_or, directory, directory_case, found_by, in_submodule}
+use Rattle.status_call.specs.Status.{Found, answer, cached_or, directory, directory_case, found_by, in_submodule, nothing, present, refused}
 use Rattle.status_call.specs.Views.{View}
 
--- The content, the target and the blob in a view of an entry are ones that may be returned.
-pub record IsContentAllowed {U : Type 0} (may : MayReturn U) (e : IndexEntry) (view : View U) : Type 0 where
-  pub opened : may.opened e.path view.opened
-  pub linked : may.linked e.path view.linked
+-- The content, the target and the blob in a view of an entry are ones that may be returned after this node was met at its path.
+pub record IsContentAllowed {U : Type 0} (may : MayReturn U) (e : IndexEntry) (n : Metadata) (view : View U) : Type 0 where
+  pub opened : may.opened e.path n view.opened
+  pub linked : may.linked e.path n view.linked
   pub blob : may.found e.id view.blob
 
 -- The node at an entry's path, by a view.
 abbrev pub node_seen : {U : Type 0} → IndexEntry → View U → Found
 node_seen e view = found_by (link_check view.lstat e.path) (cached_or view.listed (view.lstat e.path))
+
+-- A fact that has to hold of the node that was found at a path, if it is no directory.
+abbrev pub IfPresent : Found → (Metadata → Type 0) → Type 0
+IfPresent nothing P = ⊤
+IfPresent (refused f) P = ⊤
+IfPresent directory P = ⊤
+IfPresent (present n) P = P n
 
 -- A listing of the path's directory that may be returned knows this node at the path.
 pub record IsNodeListed (may : MayList) (path : List ℕ) (n : Metadata) : Type 0 where
@@ -41,14 +48,14 @@ pub record IsNodeListed (may : MayList) (path : List ℕ) (n : Metadata) : Type 
   pub allowed : may (directory_of path) listing
   pub node : known_node true (λ _. listing) path ≡ Some n
 
--- A view of an entry is allowed if each of its results may be returned. The submodule's has to be only if a directory is at a
--- submodule's entry. No listing is used unless that is asked for. A node that a listing knows is one of a listing of the path's
+-- A view of an entry is allowed if each of its results may be returned: the content only after the view's own node was met, and
+-- only if there is one. The submodule's has to be only if a directory is at a submodule's entry. No listing is used unless that is asked for. A node that a listing knows is one of a listing of the path's
 -- directory that may be returned.
 pub record IsViewAllowed {U : Type 0} (may : MayReturn U) (fscache : Bool) (e : IndexEntry) (view : View U) : Type 0 where
   pub stats : AreAllowed may.stat view.lstat
   pub unlisted : fscache ≡ false → view.listed ≡ None
   pub node : IfSome view.listed (IsNodeListed may.listed e.path)
-  pub content : IsContentAllowed may e view
+  pub content : IfPresent (node_seen e view) (λ n. IsContentAllowed may e n view)
   pub submodule : node_seen e view ≡ directory → IsTrue (is_submodule e.mode) → may.reported e view.submodule
 
 -- The look-up of a path is the specified one for results that `lstat` may return, and for a node of a listing that may be returned.
@@ -106,17 +113,17 @@ module _ {T U : Type 0} (may : MayReturn U) (settings : Settings) (conversion : 
   -- The comparison of an entry's content with its node's is the specified one for contents that may be returned.
   pub record IsComparisonViewed (result : Result (Comparison T) Error) : Type 0 where
     pub view : View U
-    pub allowed : IsContentAllowed may e view
+    pub allowed : IsContentAllowed may e n view
     pub compared : IsContentCompared (viewed settings conversion answers counts view) e n result
 
   -- The decision of an entry whose path has this node is.
   pub record IsNodeSeen (result : Result (Decided T U) Error) : Type 0 where
     pub view : View U
-    pub allowed : IsContentAllowed may e view
+    pub allowed : IsContentAllowed may e n view
     pub decided : IsNodeDecided (viewed settings conversion answers counts view) e n result
 
   -- The same if the node has the entry's type and this stat.
   pub record IsContentSeen (s : Stat) (executable_changed : Bool) (result : Result (Decided T U) Error) : Type 0 where
     pub view : View U
-    pub allowed : IsContentAllowed may e view
+    pub allowed : IsContentAllowed may e n view
     pub decided : IsContentDecided (viewed settings conversion answers counts view) e n s executable_changed result

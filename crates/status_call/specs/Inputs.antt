@@ -4,6 +4,7 @@ use Rattle.std.specs.Prelude.{false}
 use Rattle.std.specs.FinMap as ids
 use Rattle.status_base.specs.Looked.{guarded}
 use Rattle.status_base.specs.Objects.{Contents}
+use Rattle.status_base.specs.declared.worktree.guarded.GuardedWorktree.{GuardedWorktree}
 use Rattle.status_base.specs.declared.worktree.filter.NoFilter.{NoFilter}
 use Rattle.status_base.specs.declared.worktree.lister.NoLister.{NoLister}
 use Rattle.status_base.specs.declared.worktree.submodule.NoSubmodules.{NoSubmodules}
@@ -17,7 +18,7 @@ use Rattle.status_call.specs.declared.index_as_worktree.types.Options.{Options}
 -- The interfaces that a caller passes. Their specification is the same whether listings may replace `lstat` or not, so this is
 -- false here.
 abbrev pub inputs_of : {W C S O P T L : Type 0} → Bor W → C → S → O → Context P T L
-    → Inputs W C S O P T L
+    → Inputs (GuardedWorktree W) C S O P T L
 inputs_of worktree compare submodule objects context = record {
   worktree = guarded worktree false;
   compare = compare;
@@ -30,7 +31,7 @@ inputs_of worktree compare submodule objects context = record {
 
 -- The usual interfaces, with a worktree, a comparer and a pathspec: no submodule, no blob, no conversion, and no listings.
 abbrev pub usual : {W C P : Type 0} → Bor W → C → P
-    → Inputs W C NoSubmodules Contents P NoFilter NoLister
+    → Inputs (GuardedWorktree W) C NoSubmodules Contents P NoFilter NoLister
 usual worktree compare pathspec = record {
   worktree = guarded worktree false;
   compare = compare;

@@ -6,8 +6,8 @@ use Rattle.status_index.specs.Entries.{IndexEntry}
 use Rattle.status_index.specs.declared.fault.Fault.{Fault}
 use Rattle.status_index.specs.declared.fault.Fault.TheVariants as faults
 use Rattle.status_base.specs.LinkCheck.{LinkCheck, accepted, empty_path, not_normal, through_link, faulty, link_check}
-use Rattle.status_base.specs.declared.worktree.objects.FindError.TheVariants as finds
-use Rattle.status_call.specs.EntrySights.{IsViewAllowed}
+use Rattle.status_index.specs.declared.stat.Metadata.{Metadata}
+use Rattle.status_call.specs.EntrySights.{IfPresent, IsContentAllowed, IsViewAllowed}
 use Rattle.status_call.specs.MayReturn.{MayReturn}
 use Rattle.status_call.specs.Status.{Found, cached_or, directory, found_by, nothing, present, refused}
 use Rattle.status_call.specs.Views.{nothing_seen}
@@ -33,13 +33,24 @@ on_check A (faulty f) = on_fault A f (is_absence f)
 no_directory : {A : Type 0} (path : List ℕ) → found_by (link_check (λ _. Err faults.Memory) path) (cached_or None (Err faults.Memory)) ≡ directory → A
 no_directory {A} path h = subst (OnDirectory A) h (on_check A (link_check (λ _. Err faults.Memory) path))
 
--- The view of an entry for which memory ran out is allowed, if each call may run out of memory.
-pub free_view : {U : Type 0} (may : MayReturn U) (fscache : Bool) (e : IndexEntry) → ((path : List ℕ) → may.stat path (Err faults.Memory)) → may.opened e.path (Err faults.Memory) → may.linked e.path (Err faults.Memory) → may.found e.id (Err finds.Memory)
-    → IsViewAllowed may fscache e nothing_seen
-free_view may fscache e stat opened linked found = record {
+unmet : (P : Metadata → Type 0) (absent : Bool) (f : Fault) → IfPresent (if absent then nothing else refused f) P
+unmet P true f = tt
+unmet P false f = tt
+
+-- Nothing is met at a path if `lstat` runs out of memory.
+nothing_met : (P : Metadata → Type 0) (check : LinkCheck) → IfPresent (found_by check (cached_or None (Err faults.Memory))) P
+nothing_met P accepted = tt
+nothing_met P empty_path = tt
+nothing_met P (not_normal component) = tt
+nothing_met P (through_link prefix) = tt
+nothing_met P (faulty f) = unmet P (is_absence f) f
+
+-- The view of an entry for which memory ran out is allowed, if `lstat` may run out of memory.
+pub free_view : {U : Type 0} (may : MayReturn U) (fscache : Bool) (e : IndexEntry) → ((path : List ℕ) → may.stat path (Err faults.Memory)) → IsViewAllowed may fscache e nothing_seen
+free_view may fscache e stat = record {
   stats = stat;
   unlisted = λ _. refl;
   node = tt;
-  content = record { opened = opened; linked = linked; blob = found };
+  content = nothing_met (λ n. IsContentAllowed may e n nothing_seen) (link_check (λ _. Err faults.Memory) e.path);
   submodule = λ there. no_directory e.path there;
 }

@@ -16,7 +16,7 @@ use gix_status::index_as_worktree::{
     index_as_worktree_without_threads,
 };
 use gix_status::worktree::{
-    AllPaths, Find, Lister, MemoryObjects, NoFilter, NoLister, NoSubmodules, Pathspec,
+    AllPaths, Find, GuardedWorktree, Lister, MemoryObjects, NoFilter, NoLister, NoSubmodules, Pathspec,
     SubmoduleStatus, ToGit, Worktree,
 };
 use std::alloc::Global;
@@ -212,7 +212,15 @@ pub fn status_without_threads<'index, W: Worktree, L: Lister>(
 }
 
 /// A worktree, a comparer and a pathspec, with the usual interfaces.
-type Usual<'w, W, C, P> = Inputs<'w, W, C, NoSubmodules, MemoryObjects, P, NoFilter, NoLister>;
+type Usual<'w, W, C, P> = Inputs<
+    GuardedWorktree<'w, W>,
+    C,
+    NoSubmodules,
+    MemoryObjects,
+    P,
+    NoFilter,
+    NoLister,
+>;
 
 /// Returns whether the status of an index against a worktree has no record.
 ///

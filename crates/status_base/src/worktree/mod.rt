@@ -6,6 +6,7 @@
 pub mod disk;
 pub mod filter;
 pub mod folder;
+pub mod guard;
 pub mod guarded;
 pub mod lister;
 pub mod memory;
@@ -22,6 +23,7 @@ pub mod tree;
 pub use disk::{DiskFile, DiskWorktree};
 pub use filter::{NoFilter, ToGit, ToGitOutcome};
 pub use folder::{Folder, PathBuffer};
+pub use guard::Guard;
 pub use guarded::GuardedWorktree;
 pub use lister::{Lister, Listing, NoLister};
 pub use memory::MemoryWorktree;

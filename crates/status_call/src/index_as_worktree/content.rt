@@ -15,7 +15,7 @@ use crate::index_as_worktree::step::Decided;
 use crate::index_as_worktree::types::{Change, EntryStatus, Error};
 use bstr::BStr;
 use status_base::worktree::{
-    Find, GuardedWorktree, Lister, Metadata, NodeKind, Pathspec, SubmoduleStatus, ToGit, Worktree,
+    Find, Guard, Lister, Metadata, NodeKind, Pathspec, SubmoduleStatus, ToGit,
 };
 use status_compare::{CompareBlobs, EntryReader, Reads};
 use status_index::{Entry, Mode, Stat, stat};
@@ -45,8 +45,7 @@ pub struct Comparison<T> {
 /// # Errors
 /// The comparer's error.
 pub(crate) fn compare_node<
-    'w,
-    W: Worktree,
+    G: Guard + Copy,
     C: CompareBlobs,
     S: SubmoduleStatus,
     O: Find,
@@ -55,22 +54,22 @@ pub(crate) fn compare_node<
     L: Lister,
 >(
     alloc: Global,
-    inputs: &mut Inputs<'w, W, C, S, O, P, T, L>,
+    inputs: &mut Inputs<G, C, S, O, P, T, L>,
     settings: Settings,
     buffer: &mut Vec<u8>,
     candidate: &Candidate<'_>,
 ) -> Result<Comparison<C::Output>, Error>
-    requires looked { IsLookedAt (W.may_stat inputs.old.worktree.worktree.now) inputs.old.worktree.fscache (bstr_bytes candidate.now.path)
+    requires looked { IsLookedAt (G.may_stat inputs.old.worktree) (G.listed inputs.old.worktree) (bstr_bytes candidate.now.path) candidate.now.node
         (kind_read (reads_link settings.fs.symlink candidate.now.entry.now.mode candidate.now.node.kind)) }
     ensures compared { IsContentCompared
-        (⟦<Inputs<'w, W, C, S, O, P, T, L> as Ask>⟧.query inputs.old settings)
+        (⟦<Inputs<G, C, S, O, P, T, L> as Ask>⟧.query inputs.old settings)
         (candidate_entry candidate.now) candidate.now.node result }
-    ensures seen { IsComparisonViewed (⟦<Inputs<'w, W, C, S, O, P, T, L> as Ask>⟧.may_return inputs.old)
+    ensures seen { IsComparisonViewed (⟦<Inputs<G, C, S, O, P, T, L> as Ask>⟧.may_return inputs.old)
         settings (T.conversion inputs.old.filter) (C.answer inputs.old.compare) (C.counts_after inputs.old.compare)
         (candidate_entry candidate.now) candidate.now.node result }
     ensures only { inputs.new ≡ record inputs.old { compare = inputs.new.compare } }
-    ensures same { ⟦<Inputs<'w, W, C, S, O, P, T, L> as Ask>⟧.query inputs.new
-        ≡ ⟦<Inputs<'w, W, C, S, O, P, T, L> as Ask>⟧.query inputs.old }
+    ensures same { ⟦<Inputs<G, C, S, O, P, T, L> as Ask>⟧.query inputs.new
+        ≡ ⟦<Inputs<G, C, S, O, P, T, L> as Ask>⟧.query inputs.old }
 {
     buffer.clear();
     let is_link = reads_link(
@@ -78,8 +77,8 @@ pub(crate) fn compare_node<
         candidate.node.kind,
         settings.fs.symlink,
     );
-    let (filter, objects) = (&inputs.filter, &inputs.objects);
-    let mut reader = reader_of(inputs.worktree, &*filter, &*objects, candidate, is_link);
+    let (worktree, filter, objects) = (&inputs.worktree, &inputs.filter, &inputs.objects);
+    let mut reader = reader_of(&*worktree, &*filter, &*objects, candidate, is_link);
     let compare = &mut inputs.compare;
     let change = compare.compare_blobs(
         alloc,
@@ -95,15 +94,15 @@ pub(crate) fn compare_node<
 }
 
 /// Returns a reader of a candidate's node and blob that has read nothing.
-fn reader_of<'w, 'r, W: Worktree, T, O>(
-    worktree: GuardedWorktree<'w, W>,
+fn reader_of<'r, G: Guard, T, O>(
+    worktree: &'r G,
     filter: &'r T,
     objects: &'r O,
     candidate: &'r Candidate<'_>,
     is_link: bool,
-) -> EntryReader<'w, 'r, W, T, O>
-    requires looked { IsLookedAt (W.may_stat worktree.worktree.now) worktree.fscache (bstr_bytes candidate.now.path) (kind_read is_link) }
-    ensures { (looked : IsLookedAt (W.may_stat worktree.entry.worktree.now) worktree.entry.fscache (bstr_bytes candidate.now.path) (kind_read is_link))
+) -> EntryReader<'r, G, T, O>
+    requires looked { IsLookedAt (G.may_stat worktree.now) (G.listed worktree.now) (bstr_bytes candidate.now.path) candidate.now.node (kind_read is_link) }
+    ensures { (looked : IsLookedAt (G.may_stat worktree.entry.now) (G.listed worktree.entry.now) (bstr_bytes candidate.now.path) candidate.now.node (kind_read is_link))
         → result
         ≡ record {
           worktree = worktree.entry;
@@ -112,7 +111,7 @@ fn reader_of<'w, 'r, W: Worktree, T, O>(
           id = candidate.now.entry.now.id;
           path = candidate.now.path;
           is_link = is_link;
-          len = candidate.now.node.len;
+          node = candidate.now.node;
           reads = no_reads;
           looked = looked;
         } }
@@ -124,7 +123,7 @@ fn reader_of<'w, 'r, W: Worktree, T, O>(
         id: candidate.entry.id,
         path: candidate.path,
         is_link,
-        len: candidate.node.len,
+        node: candidate.node,
         reads: Reads::none(),
     }
 }

@@ -27,7 +27,7 @@ use bitflags::Flags as _;
 use bstr::{BStr, BString};
 use status_base::fscache::Listings;
 use status_base::stack::SymlinkCheck;
-use status_base::worktree::{Find, Lister, Pathspec, SubmoduleStatus, ToGit, Worktree};
+use status_base::worktree::{Find, Guard, Lister, Pathspec, SubmoduleStatus, ToGit};
 use status_compare::CompareBlobs;
 use status_index::{Entry, Flags, Stat, mode};
 use std::alloc::{AllocError, Global};
@@ -36,31 +36,30 @@ use std::alloc::{AllocError, Global};
 /// unless its directory has to be listed first. For each directory that its check found open, the worktree returned a result
 /// that shows this. The names of each directory that it listed are of a listing that the lister may return.
 #[derive(Drop)]
-pub struct Decider<'w, W: Worktree, C, S, O, P, T, L: Lister> {
+pub struct Decider<G: Guard, C, S, O, P, T, L: Lister> {
     alloc: Global,
-    inputs: Inputs<'w, W, C, S, O, P, T, L>,
+    inputs: Inputs<G, C, S, O, P, T, L>,
     settings: Settings,
     known: Known,
     buffer: Vec<u8>,
-    ghost guard: { inputs.worktree.fscache ≡ settings.fscache },
-    ghost clear: { IsTrue (W.modelled inputs.worktree.worktree.now)
-        → IsClear (W.lstat_of inputs.worktree.worktree.now) known.check.path },
-    ghost opened: { ∥ IsOpen (W.may_stat inputs.worktree.worktree.now) known.check.path ∥₁ },
+    ghost guard: { G.listed inputs.worktree ≡ settings.fscache },
+    ghost clear: { IsTrue (G.modelled inputs.worktree)
+        → IsClear (G.lstat_of inputs.worktree) known.check.path },
+    ghost opened: { ∥ IsOpen (G.may_stat inputs.worktree) known.check.path ∥₁ },
     ghost listed: { ∥ HasListedSeen (L.may_list inputs.lister) known.listings ∥₁ },
     ghost kept: { Keeps (L.modelled inputs.lister)
         (L.listing inputs.lister) known.listings } by { Prim.hlevel props },
 }
 
 impl<
-    'w,
-    W: Worktree,
+    G: Guard + Copy,
     C: CompareBlobs,
     S: SubmoduleStatus,
     O: Find,
     P: Pathspec,
     T: ToGit,
     L: Lister,
-> Decider<'w, W, C, S, O, P, T, L>
+> Decider<G, C, S, O, P, T, L>
 where
     C::Output: Drop,
     S::Output: Drop,
@@ -70,13 +69,13 @@ where
     /// Makes a decider with these settings, which use listings exactly if the worktree's guard allows that.
     pub fn new(
         alloc: Global,
-        inputs: Inputs<'w, W, C, S, O, P, T, L>,
+        inputs: Inputs<G, C, S, O, P, T, L>,
         settings: Settings,
-    ) -> Decider<'w, W, C, S, O, P, T, L>
-        requires guard { inputs.worktree.fscache ≡ settings.fscache }
-        ensures query { ⟦<Decider<'w, W, C, S, O, P, T, L> as Decide>⟧.query result
-            ≡ ⟦<Inputs<'w, W, C, S, O, P, T, L> as Ask>⟧.query inputs.entry settings }
-        ensures inputs { result.inputs ≡ inputs.entry }
+    ) -> Decider<G, C, S, O, P, T, L>
+        requires guard { G.listed inputs.worktree ≡ settings.fscache }
+        ensures query { ⟦<Decider<G, C, S, O, P, T, L> as Decide>⟧.query result
+            ≡ ⟦<Inputs<G, C, S, O, P, T, L> as Ask>⟧.query inputs settings }
+        ensures inputs { result.inputs ≡ inputs }
         ensures settings { result.settings ≡ settings }
     {
         let root = BString::new(Vec::new(alloc));
@@ -96,19 +95,19 @@ where
     /// # Errors
     /// A path that isn't normal, a fault other than one of absence, or out of memory.
     fn look(&mut self, path: BStr<'_>) -> Result<Look, Error>
-        ensures look { IsTrue (⟦<Decider<'w, W, C, S, O, P, T, L> as Decide>⟧.query self.old).modelled
-            → IsLookAt (W.lstat_of self.old.inputs.worktree.worktree.now)
+        ensures look { IsTrue (⟦<Decider<G, C, S, O, P, T, L> as Decide>⟧.query self.old).modelled
+            → IsLookAt (G.lstat_of self.old.inputs.worktree)
             (known_node self.old.settings.fscache (L.listing self.old.inputs.lister) (bstr_bytes path.entry))
             (bstr_bytes path.entry) result }
-        ensures seen { ∥ IsLookSeen (W.may_stat self.old.inputs.worktree.worktree.now)
+        ensures seen { ∥ IsLookSeen (G.may_stat self.old.inputs.worktree)
             (L.may_list self.old.inputs.lister) self.old.settings.fscache (bstr_bytes path.entry) result ∥₁ }
-        ensures met { IfOk result (λ look. IfNode look.presence (λ n. ∥ IsNodeMet (W.may_stat self.old.inputs.worktree.worktree.now)
+        ensures met { IfOk result (λ look. IfNode look.presence (λ n. ∥ IsNodeMet (G.may_stat self.old.inputs.worktree)
             self.old.settings.fscache (bstr_bytes path.entry) n ∥₁)) }
         ensures inputs { self.new.inputs ≡ self.old.inputs }
         ensures settings { self.new.settings ≡ self.old.settings }
     {
         look_up(
-            self.inputs.worktree,
+            &self.inputs.worktree,
             &mut self.known,
             self.settings.fscache,
             &self.inputs.lister,
@@ -130,10 +129,10 @@ where
             → IsCaseDecided e.path (directory_case e (S.status_of self.old.inputs.submodule e)) false (Some no_reads) result }
         ensures seen { let e = entry_at (bstr_bytes path.entry) entry.now in
             IsDirectorySeen (S.may_report self.old.inputs.submodule e) e result }
-        ensures within { ReturnsWithin (⟦<Inputs<'w, W, C, S, O, P, T, L> as Ask>⟧.may_return self.new.inputs)
-            (⟦<Inputs<'w, W, C, S, O, P, T, L> as Ask>⟧.may_return self.old.inputs) }
-        ensures same { ⟦<Decider<'w, W, C, S, O, P, T, L> as Decide>⟧.query self.new
-            ≡ ⟦<Decider<'w, W, C, S, O, P, T, L> as Decide>⟧.query self.old }
+        ensures within { ReturnsWithin (⟦<Inputs<G, C, S, O, P, T, L> as Ask>⟧.may_return self.new.inputs)
+            (⟦<Inputs<G, C, S, O, P, T, L> as Ask>⟧.may_return self.old.inputs) }
+        ensures same { ⟦<Decider<G, C, S, O, P, T, L> as Decide>⟧.query self.new
+            ≡ ⟦<Decider<G, C, S, O, P, T, L> as Decide>⟧.query self.old }
         ensures kept { (self.new.inputs.worktree ≡ self.old.inputs.worktree)
             × (self.new.settings ≡ self.old.settings) }
     {
@@ -152,20 +151,20 @@ where
         &mut self,
         candidate: &Candidate<'_>,
     ) -> Result<Decided<C::Output, S::Output>, Error>
-        requires met { ∥ IsNodeMet (W.may_stat self.old.inputs.worktree.worktree.now) self.old.settings.fscache
+        requires met { ∥ IsNodeMet (G.may_stat self.old.inputs.worktree) self.old.settings.fscache
             (bstr_bytes candidate.now.path) candidate.now.node ∥₁ }
         ensures decided { IsNodeDecided
-            (⟦<Decider<'w, W, C, S, O, P, T, L> as Decide>⟧.query self.old)
+            (⟦<Decider<G, C, S, O, P, T, L> as Decide>⟧.query self.old)
             (candidate_entry candidate.now) candidate.now.node result }
-        ensures seen { IsNodeSeen (⟦<Inputs<'w, W, C, S, O, P, T, L> as Ask>⟧.may_return self.old.inputs)
+        ensures seen { IsNodeSeen (⟦<Inputs<G, C, S, O, P, T, L> as Ask>⟧.may_return self.old.inputs)
             self.old.settings (T.conversion self.old.inputs.filter) (C.answer self.old.inputs.compare) (C.counts_after self.old.inputs.compare)
             (candidate_entry candidate.now) candidate.now.node result }
-        ensures within { ReturnsWithin (⟦<Inputs<'w, W, C, S, O, P, T, L> as Ask>⟧.may_return self.new.inputs)
-            (⟦<Inputs<'w, W, C, S, O, P, T, L> as Ask>⟧.may_return self.old.inputs) }
+        ensures within { ReturnsWithin (⟦<Inputs<G, C, S, O, P, T, L> as Ask>⟧.may_return self.new.inputs)
+            (⟦<Inputs<G, C, S, O, P, T, L> as Ask>⟧.may_return self.old.inputs) }
         ensures kept { (self.new.inputs.worktree ≡ self.old.inputs.worktree)
             × (self.new.settings ≡ self.old.settings) }
-        ensures same { ⟦<Decider<'w, W, C, S, O, P, T, L> as Decide>⟧.query self.new
-            ≡ ⟦<Decider<'w, W, C, S, O, P, T, L> as Decide>⟧.query self.old }
+        ensures same { ⟦<Decider<G, C, S, O, P, T, L> as Decide>⟧.query self.new
+            ≡ ⟦<Decider<G, C, S, O, P, T, L> as Decide>⟧.query self.old }
     {
         let Candidate { entry, node, .. } = candidate;
         if entry.flags.intersects(Flags::INTENT_TO_ADD) {
@@ -199,21 +198,21 @@ where
         stat: Stat,
         executable_bit_changed: bool,
     ) -> Result<Decided<C::Output, S::Output>, Error>
-        requires looked { IsLookedAt (W.may_stat self.old.inputs.worktree.worktree.now) self.old.settings.fscache (bstr_bytes candidate.now.path)
+        requires looked { IsLookedAt (G.may_stat self.old.inputs.worktree) self.old.settings.fscache (bstr_bytes candidate.now.path) candidate.now.node
             (kind_read (reads_link self.old.settings.fs.symlink candidate.now.entry.now.mode candidate.now.node.kind)) }
         ensures decided { IsContentDecided
-            (⟦<Decider<'w, W, C, S, O, P, T, L> as Decide>⟧.query self.old)
+            (⟦<Decider<G, C, S, O, P, T, L> as Decide>⟧.query self.old)
             (candidate_entry candidate.now) candidate.now.node stat
             executable_bit_changed result }
-        ensures seen { IsContentSeen (⟦<Inputs<'w, W, C, S, O, P, T, L> as Ask>⟧.may_return self.old.inputs)
+        ensures seen { IsContentSeen (⟦<Inputs<G, C, S, O, P, T, L> as Ask>⟧.may_return self.old.inputs)
             self.old.settings (T.conversion self.old.inputs.filter) (C.answer self.old.inputs.compare) (C.counts_after self.old.inputs.compare)
             (candidate_entry candidate.now) candidate.now.node stat executable_bit_changed result }
-        ensures within { ReturnsWithin (⟦<Inputs<'w, W, C, S, O, P, T, L> as Ask>⟧.may_return self.new.inputs)
-            (⟦<Inputs<'w, W, C, S, O, P, T, L> as Ask>⟧.may_return self.old.inputs) }
+        ensures within { ReturnsWithin (⟦<Inputs<G, C, S, O, P, T, L> as Ask>⟧.may_return self.new.inputs)
+            (⟦<Inputs<G, C, S, O, P, T, L> as Ask>⟧.may_return self.old.inputs) }
         ensures kept { (self.new.inputs.worktree ≡ self.old.inputs.worktree)
             × (self.new.settings ≡ self.old.settings) }
-        ensures same { ⟦<Decider<'w, W, C, S, O, P, T, L> as Decide>⟧.query self.new
-            ≡ ⟦<Decider<'w, W, C, S, O, P, T, L> as Decide>⟧.query self.old }
+        ensures same { ⟦<Decider<G, C, S, O, P, T, L> as Decide>⟧.query self.new
+            ≡ ⟦<Decider<G, C, S, O, P, T, L> as Decide>⟧.query self.old }
     {
         let trusted = is_trusted(candidate.entry, &stat, self.settings.stat);
         let racy = stat.is_racy(self.settings.timestamp, self.settings.stat);
@@ -228,15 +227,14 @@ where
 }
 
 impl<
-    'w,
-    W: Worktree,
+    G: Guard + Copy,
     C: CompareBlobs,
     S: SubmoduleStatus,
     O: Find,
     P: Pathspec,
     T: ToGit,
     L: Lister,
-> Decide for Decider<'w, W, C, S, O, P, T, L>
+> Decide for Decider<G, C, S, O, P, T, L>
 where
     C::Output: Drop,
     S::Output: Drop,
@@ -248,9 +246,9 @@ where
 
     type Submodule = S::Output;
 
-    ghost query = { λ d. ⟦<Inputs<'w, W, C, S, O, P, T, L> as Ask>⟧.query d.inputs d.settings };
+    ghost query = { λ d. ⟦<Inputs<G, C, S, O, P, T, L> as Ask>⟧.query d.inputs d.settings };
 
-    ghost allows = { λ d. IsViewAllowed (⟦<Inputs<'w, W, C, S, O, P, T, L> as Ask>⟧.may_return d.inputs) d.settings.fscache };
+    ghost allows = { λ d. IsViewAllowed (⟦<Inputs<G, C, S, O, P, T, L> as Ask>⟧.may_return d.inputs) d.settings.fscache };
 
     fn common_prefix(&self) -> BStr<'_> {
         self.inputs.pathspec.common_prefix()
@@ -289,12 +287,10 @@ where
         }
     }
 
-    fn another(&self) -> Result<Decider<'w, W, C, S, O, P, T, L>, AllocError> {
+    fn another(&self) -> Result<Decider<G, C, S, O, P, T, L>, AllocError> {
         let inputs = self.inputs.another()?;
         Ok(Decider::new(self.alloc, inputs, self.settings))
     }
 
-    ghost free = { λ d e. free_view (⟦<Inputs<'w, W, C, S, O, P, T, L> as Ask>⟧.may_return d.inputs) d.settings.fscache e
-        (W.stat_may_fail d.inputs.worktree.worktree.now) (W.open_may_fail d.inputs.worktree.worktree.now e.path)
-        (W.link_may_fail d.inputs.worktree.worktree.now e.path) (O.find_may_fail d.inputs.objects e.id) };
+    ghost free = { λ d e. free_view (⟦<Inputs<G, C, S, O, P, T, L> as Ask>⟧.may_return d.inputs) d.settings.fscache e (G.stat_may_fail d.inputs.worktree) };
 }

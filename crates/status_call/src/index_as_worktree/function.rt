@@ -11,8 +11,8 @@ use crate::index_as_worktree::status_by::{status_by, status_serially};
 use crate::index_as_worktree::types::{Context, Error, Options, Outcome, VisitEntry};
 use crate::index_as_worktree::workers::Execution;
 use status_base::worktree::{
-    Find, Lister, MemoryObjects, NoFilter, NoLister, NoSubmodules, Pathspec, SubmoduleStatus,
-    ToGit, Worktree,
+    Find, GuardedWorktree, Lister, MemoryObjects, NoFilter, NoLister, NoSubmodules, Pathspec,
+    SubmoduleStatus, ToGit, Worktree,
 };
 use status_compare::CompareBlobs;
 use status_index::State;
@@ -67,15 +67,15 @@ where
     W::File: Send,
     C::Output: Send,
     S::Output: Send,
-    ensures all { IsStatus ⟦<Inputs<'w, W, C, S, O, P, T, L> as Ask>⟧.query
+    ensures all { IsStatus ⟦<Inputs<GuardedWorktree<'w, W>, C, S, O, P, T, L> as Ask>⟧.query
         (inputs_of worktree.entry compare submodule objects context.entry)
         options index.now V.visits collector.old result collector.new }
-    ensures seen { ∥ IsStatusByAnswers ⟦<Inputs<'w, W, C, S, O, P, T, L> as Ask>⟧.query
+    ensures seen { ∥ IsStatusByAnswers ⟦<Inputs<GuardedWorktree<'w, W>, C, S, O, P, T, L> as Ask>⟧.query
         (inputs_of worktree.entry compare submodule objects context.entry)
-        options index.now (⟦<Inputs<'w, W, C, S, O, P, T, L> as Ask>⟧.may_return (inputs_of worktree.entry compare submodule objects context.entry)) V.visits collector.old result collector.new ∥₁ }
+        options index.now (⟦<Inputs<GuardedWorktree<'w, W>, C, S, O, P, T, L> as Ask>⟧.may_return (inputs_of worktree.entry compare submodule objects context.entry)) V.visits collector.old result collector.new ∥₁ }
     ensures uninterrupted { context.entry.should_interrupt ≡ None
         → IfOk result (λ o. o.interrupted ≡ false) }
-    ensures alone { OneThreadCallSpawnsNone ⟦<Inputs<'w, W, C, S, O, P, T, L> as Ask>⟧.query
+    ensures alone { OneThreadCallSpawnsNone ⟦<Inputs<GuardedWorktree<'w, W>, C, S, O, P, T, L> as Ask>⟧.query
         (inputs_of worktree.entry compare submodule objects context.entry) options index.now result }
 {
     let should_interrupt = context.should_interrupt;
@@ -181,15 +181,15 @@ pub fn index_as_worktree_without_threads<
     context: Context<'_, P, T, L>,
     options: Options,
 ) -> Result<Outcome, Error>
-    ensures all { IsStatus ⟦<Inputs<'w, W, C, S, O, P, T, L> as Ask>⟧.query
+    ensures all { IsStatus ⟦<Inputs<GuardedWorktree<'w, W>, C, S, O, P, T, L> as Ask>⟧.query
         (inputs_of worktree.entry compare submodule objects context.entry)
         options index.now V.visits collector.old result collector.new }
-    ensures seen { ∥ IsStatusByAnswers ⟦<Inputs<'w, W, C, S, O, P, T, L> as Ask>⟧.query
+    ensures seen { ∥ IsStatusByAnswers ⟦<Inputs<GuardedWorktree<'w, W>, C, S, O, P, T, L> as Ask>⟧.query
         (inputs_of worktree.entry compare submodule objects context.entry)
-        options index.now (⟦<Inputs<'w, W, C, S, O, P, T, L> as Ask>⟧.may_return (inputs_of worktree.entry compare submodule objects context.entry)) V.visits collector.old result collector.new ∥₁ }
+        options index.now (⟦<Inputs<GuardedWorktree<'w, W>, C, S, O, P, T, L> as Ask>⟧.may_return (inputs_of worktree.entry compare submodule objects context.entry)) V.visits collector.old result collector.new ∥₁ }
     ensures uninterrupted { context.entry.should_interrupt ≡ None
         → IfOk result (λ o. o.interrupted ≡ false) }
-    ensures threadless { IsWithoutThread ⟦<Inputs<'w, W, C, S, O, P, T, L> as Ask>⟧.query
+    ensures threadless { IsWithoutThread ⟦<Inputs<GuardedWorktree<'w, W>, C, S, O, P, T, L> as Ask>⟧.query
         (inputs_of worktree.entry compare submodule objects context.entry)
         options index.now V.visits collector.old result collector.new }
 {

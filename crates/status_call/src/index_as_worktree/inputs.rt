@@ -11,8 +11,8 @@ ghost use Rattle.status_call.specs.declared.index_as_worktree.inputs.Settings.{S
 
 use crate::index_as_worktree::types::{Capabilities, Context, Options};
 use status_base::worktree::{
-    Find, GuardedWorktree, Lister, MemoryObjects, NoFilter, NoLister, NoSubmodules, Pathspec,
-    SubmoduleStatus, ToGit, Worktree,
+    Find, Guard, GuardedWorktree, Lister, MemoryObjects, NoFilter, NoLister, NoSubmodules,
+    Pathspec, SubmoduleStatus, ToGit, Worktree,
 };
 use status_compare::CompareBlobs;
 use status_index::{Moment, State, stat};
@@ -47,9 +47,9 @@ impl Settings {
 
 /// The worktree and the interfaces that a caller passes.
 #[derive(Drop)]
-pub struct Inputs<'w, W, C, S, O, P, T, L> {
+pub struct Inputs<G, C, S, O, P, T, L> {
     /// The worktree. Files are opened and links are read only after `lstat`.
-    pub worktree: GuardedWorktree<'w, W>,
+    pub worktree: G,
     /// Compares a file with a blob.
     pub compare: C,
     /// Has the status of submodules.
@@ -64,7 +64,7 @@ pub struct Inputs<'w, W, C, S, O, P, T, L> {
     pub lister: L,
 }
 
-impl<'w, W: Worktree, C, S, O, P, T, L> Inputs<'w, W, C, S, O, P, T, L> {
+impl<'w, W: Worktree, C, S, O, P, T, L> Inputs<GuardedWorktree<'w, W>, C, S, O, P, T, L> {
     /// Returns the inputs that a call gets, with a guard before the worktree.
     pub(crate) fn of(
         worktree: &'w W,
@@ -73,7 +73,7 @@ impl<'w, W: Worktree, C, S, O, P, T, L> Inputs<'w, W, C, S, O, P, T, L> {
         submodule: S,
         objects: O,
         context: Context<'_, P, T, L>,
-    ) -> Inputs<'w, W, C, S, O, P, T, L>
+    ) -> Inputs<GuardedWorktree<'w, W>, C, S, O, P, T, L>
         ensures { result ≡ record (inputs_of worktree.entry compare submodule objects context.entry) { worktree = guarded worktree.entry fscache } }
     {
         let Context {
@@ -96,8 +96,7 @@ impl<'w, W: Worktree, C, S, O, P, T, L> Inputs<'w, W, C, S, O, P, T, L> {
 
 /// A worktree, a comparer and a pathspec, with the usual interfaces.
 pub type UsualInputs<'w, W, C, P> = Inputs<
-    'w,
-    W,
+    GuardedWorktree<'w, W>,
     C,
     NoSubmodules,
     MemoryObjects,
@@ -128,30 +127,29 @@ pub trait Ask {
 }
 
 impl<
-    'w,
-    W: Worktree,
+    G: Guard + Copy,
     C: CompareBlobs,
     S: SubmoduleStatus,
     O: Find,
     P: Pathspec,
     T: ToGit,
     L: Lister,
-> Ask for Inputs<'w, W, C, S, O, P, T, L> {
+> Ask for Inputs<G, C, S, O, P, T, L> {
     type Content = C::Output;
 
     type Submodule = S::Output;
 
     ghost query = { λ i settings. record {
-      modelled = all_modelled (W.modelled i.worktree.worktree.now) (O.modelled i.objects)
+      modelled = all_modelled (G.modelled i.worktree) (O.modelled i.objects)
           (S.modelled i.submodule)
           (are_modelled settings.fscache (L.modelled i.lister));
       stat_options = settings.stat;
       symlink = settings.fs.symlink;
       executable_bit = settings.fs.executable_bit;
       timestamp = settings.timestamp;
-      lstat = λ _. W.lstat_of i.worktree.worktree.now;
-      opened = λ e. W.open_of i.worktree.worktree.now e.path;
-      linked = λ e. W.target_of i.worktree.worktree.now e.path;
+      lstat = λ _. G.lstat_of i.worktree;
+      opened = λ e. G.open_of i.worktree e.path;
+      linked = λ e. G.target_of i.worktree e.path;
       cached = λ e. known_node settings.fscache (L.listing i.lister) e.path;
       prefix = P.prefix i.pathspec;
       included = P.included i.pathspec;
@@ -163,20 +161,20 @@ impl<
     } };
 
     ghost may_return = { λ i. record {
-      stat = W.may_stat i.worktree.worktree.now;
-      opened = W.may_open i.worktree.worktree.now;
-      linked = W.may_link i.worktree.worktree.now;
+      stat = G.may_stat i.worktree;
+      opened = G.may_open i.worktree;
+      linked = G.may_link i.worktree;
       listed = L.may_list i.lister;
       found = O.may_find i.objects;
       reported = S.may_report i.submodule;
     } };
 
-    fn another(&self) -> Result<Inputs<'w, W, C, S, O, P, T, L>, AllocError>
-        ensures same { IfOk result (λ other. ⟦<Inputs<'w, W, C, S, O, P, T, L> as Ask>⟧.query other
-            ≡ ⟦<Inputs<'w, W, C, S, O, P, T, L> as Ask>⟧.query self.now) }
+    fn another(&self) -> Result<Inputs<G, C, S, O, P, T, L>, AllocError>
+        ensures same { IfOk result (λ other. ⟦<Inputs<G, C, S, O, P, T, L> as Ask>⟧.query other
+            ≡ ⟦<Inputs<G, C, S, O, P, T, L> as Ask>⟧.query self.now) }
         ensures within { IfOk result (λ other. ReturnsWithin
-            (⟦<Inputs<'w, W, C, S, O, P, T, L> as Ask>⟧.may_return other)
-            (⟦<Inputs<'w, W, C, S, O, P, T, L> as Ask>⟧.may_return self.now)) }
+            (⟦<Inputs<G, C, S, O, P, T, L> as Ask>⟧.may_return other)
+            (⟦<Inputs<G, C, S, O, P, T, L> as Ask>⟧.may_return self.now)) }
         ensures worktree { IfOk result (λ other. other.worktree ≡ self.now.worktree) }
     {
         Ok(Inputs {

@@ -21,7 +21,7 @@ use crate::index_as_worktree::types::Error;
 use bstr::BStr;
 use status_base::fscache::Listings;
 use status_base::stack::{StackError, SymlinkCheck};
-use status_base::worktree::{Fault, GuardedWorktree, Lister, Metadata, NodeKind, Worktree};
+use status_base::worktree::{Fault, Guard, Lister, Metadata, NodeKind};
 use std::alloc::AllocError;
 
 /// The node at an entry's path.
@@ -58,27 +58,27 @@ pub(crate) struct Known {
 ///
 /// # Errors
 /// A path that isn't normal, a fault other than one of absence, or out of memory.
-pub(crate) fn look_up<W: Worktree, L: Lister>(
-    worktree: GuardedWorktree<'_, W>,
+pub(crate) fn look_up<G: Guard, L: Lister>(
+    worktree: &G,
     known: &mut Known,
     fscache: bool,
     lister: &L,
     path: BStr<'_>,
 ) -> Result<Look, Error>
-    ensures look { IsTrue (W.modelled worktree.entry.worktree.now)
+    ensures look { IsTrue (G.modelled worktree.now)
         → IsLookUp fscache (L.modelled lister.now) (L.listing lister.now) known.old.listings
         (bstr_bytes path.entry)
-        (W.lstat_of worktree.entry.worktree.now) known.old.check.path result }
-    ensures seen { IsOpen (W.may_stat worktree.entry.worktree.now) known.old.check.path
+        (G.lstat_of worktree.now) known.old.check.path result }
+    ensures seen { IsOpen (G.may_stat worktree.now) known.old.check.path
         → HasListedSeen (L.may_list lister.now) known.old.listings
-        → IsLookSeen (W.may_stat worktree.entry.worktree.now) (L.may_list lister.now) fscache (bstr_bytes path.entry) result }
-    ensures met { IsOpen (W.may_stat worktree.entry.worktree.now) known.old.check.path
-        → IfOk result (λ look. IfNode look.presence (IsNodeMet (W.may_stat worktree.entry.worktree.now) fscache (bstr_bytes path.entry))) }
-    ensures opened { IsOpen (W.may_stat worktree.entry.worktree.now) known.old.check.path
-        → IsOpen (W.may_stat worktree.entry.worktree.now) known.new.check.path }
-    ensures clear { IsTrue (W.modelled worktree.entry.worktree.now)
-        → IsClear (W.lstat_of worktree.entry.worktree.now) known.old.check.path
-        → IsClear (W.lstat_of worktree.entry.worktree.now) known.new.check.path }
+        → IsLookSeen (G.may_stat worktree.now) (L.may_list lister.now) fscache (bstr_bytes path.entry) result }
+    ensures met { IsOpen (G.may_stat worktree.now) known.old.check.path
+        → IfOk result (λ look. IfNode look.presence (IsNodeMet (G.may_stat worktree.now) fscache (bstr_bytes path.entry))) }
+    ensures opened { IsOpen (G.may_stat worktree.now) known.old.check.path
+        → IsOpen (G.may_stat worktree.now) known.new.check.path }
+    ensures clear { IsTrue (G.modelled worktree.now)
+        → IsClear (G.lstat_of worktree.now) known.old.check.path
+        → IsClear (G.lstat_of worktree.now) known.new.check.path }
     ensures kept { Keeps (L.modelled lister.now) (L.listing lister.now) known.old.listings
         → Keeps (L.modelled lister.now) (L.listing lister.now) known.new.listings }
     ensures seen_kept { HasListedSeen (L.may_list lister.now) known.old.listings

@@ -3,7 +3,9 @@
 ghost use Rattle.status_joined.specs.JoinedQuery.{JoinedQuery};
 
 use crate::untracked::{FindUntracked, Walker};
-use status_base::worktree::{Find, Lister, Pathspec, SubmoduleStatus, ToGit, Worktree};
+use status_base::worktree::{
+    Find, GuardedWorktree, Lister, Pathspec, SubmoduleStatus, ToGit, Worktree,
+};
 use status_call::index_as_worktree::inputs;
 use status_compare::CompareBlobs;
 use status_rewrites::Tracker;
@@ -16,7 +18,7 @@ pub struct Inputs<'w, W, C, S, O, P, T, L, K, X> {
     /// The worktree, for the nodes that the index doesn't have.
     pub worktree: &'w W,
     /// The inputs of the status of the index.
-    pub status: inputs::Inputs<'w, W, C, S, O, P, T, L>,
+    pub status: inputs::Inputs<GuardedWorktree<'w, W>, C, S, O, P, T, L>,
     /// Finds the nodes of the worktree that the index doesn't have.
     pub walk: K,
     /// Finds renames and copies.
@@ -58,7 +60,7 @@ impl<
     type Submodule = S::Output;
 
     ghost query = { λ i. record {
-      status = ⟦<inputs::Inputs<'w, W, C, S, O, P, T, L> as inputs::Ask>⟧.query (record i.status { worktree = guarded i.worktree false });
+      status = ⟦<inputs::Inputs<GuardedWorktree<'w, W>, C, S, O, P, T, L> as inputs::Ask>⟧.query (record i.status { worktree = guarded i.worktree false });
       walking = ⟦<Walker<'w, W, K, P> as FindUntracked>⟧.walking (walker_of i.worktree i.walk i.status.pathspec);
       identifying = λ kind. identifying W.modelled W.lstat_of W.open_of W.target_of T.conversion kind i.worktree.now i.status.filter;
       pairs = X.tracks i.tracker;

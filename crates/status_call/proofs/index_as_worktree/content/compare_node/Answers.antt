@@ -1,6 +1,7 @@
 use Rattle.std.proofs.Common.{rules, ◌≡◌, ℕ, Bool, List, sym, subst}
 use Rattle.std.proofs.lemmas.Result.{err_from_is_err_and}
 use Rattle.bstr.specs.BStr.{bstr_bytes}
+use Rattle.status_index.specs.declared.stat.Metadata.{Metadata}
 use Rattle.status_base.specs.ListedNodes.{known_node}
 use Rattle.status_base.specs.Looked.{IsLookedAt, kind_read}
 use Rattle.status_base.specs.Sights.{MayStat}
@@ -12,8 +13,8 @@ use Rattle.status_call.proofs.EntryCases.{all_specified}
 use Rattle.status_call.proofs.index_as_worktree.content.compare_node.Goals as goal
 
 -- The node was met as one of the kind that is read.
-read : {may : MayStat} {listed : Bool} {path : List ℕ} {is_link links : Bool} → is_link ≡ links → IsLookedAt may listed path (kind_read links) → IsLookedAt may listed path (kind_read is_link)
-read {may} {listed} {path} same looked = subst (λ (b : Bool). IsLookedAt may listed path (kind_read b)) (sym same) looked
+read : {may : MayStat} {listed : Bool} {path : List ℕ} {n : Metadata} {is_link links : Bool} → is_link ≡ links → IsLookedAt may listed path n (kind_read links) → IsLookedAt may listed path n (kind_read is_link)
+read {may} {listed} {path} {n} same looked = subst (λ (b : Bool). IsLookedAt may listed path n (kind_read b)) (sym same) looked
 
 pub reader_of-reader-requires : goal.reader_of-reader-requires
 reader_of-reader-requires g c = record { looked = read c.reads_link-is_link.ensures c.requires.looked }
@@ -23,8 +24,8 @@ returns-in_err-change-clause-compared g c = λ modelled.
     let i = c.args.inputs.now in
     let path = bstr_bytes c.args.candidate.now.path in
     let specified = entry_readings c.reads_link-is_link.result (λ x. g.T.ToGit.conversion i.filter x path) c.args.candidate.now.node.len
-    (g.W.Worktree.open_of i.worktree.worktree.now path) (g.W.Worktree.target_of i.worktree.worktree.now path) (g.O.Find.found i.objects c.args.candidate.now.entry.now.id) in
-    let some = all_specified (g.W.Worktree.modelled i.worktree.worktree.now) (g.O.Find.modelled i.objects) (g.S.SubmoduleStatus.modelled i.submodule)
+    (g.G.Guard.open_of i.worktree path) (g.G.Guard.target_of i.worktree path) (g.O.Find.found i.objects c.args.candidate.now.entry.now.id) in
+    let some = all_specified (g.G.Guard.modelled i.worktree) (g.O.Find.modelled i.objects) (g.S.SubmoduleStatus.modelled i.submodule)
     (are_modelled c.args.settings.fscache (g.L.Lister.modelled i.lister)) specified modelled in
     let answer = rw (c.reader_of-reader.ensures (read c.reads_link-is_link.ensures c.requires.looked), some) at (c.in_err-change.ensures.answer path) in
     search rules
@@ -33,15 +34,15 @@ pub returns-in_err-change-clause-same : goal.returns-in_err-change-clause-same
 returns-in_err-change-clause-same g c =
     let i = c.args.inputs.now in
     λ k settings. record {
-      modelled = all_modelled (g.W.Worktree.modelled i.worktree.worktree.now) (g.O.Find.modelled i.objects) (g.S.SubmoduleStatus.modelled i.submodule)
+      modelled = all_modelled (g.G.Guard.modelled i.worktree) (g.O.Find.modelled i.objects) (g.S.SubmoduleStatus.modelled i.submodule)
           (are_modelled settings.fscache (g.L.Lister.modelled i.lister));
       stat_options = settings.stat;
       symlink = settings.fs.symlink;
       executable_bit = settings.fs.executable_bit;
       timestamp = settings.timestamp;
-      lstat = λ _. g.W.Worktree.lstat_of i.worktree.worktree.now;
-      opened = λ e. g.W.Worktree.open_of i.worktree.worktree.now e.path;
-      linked = λ e. g.W.Worktree.target_of i.worktree.worktree.now e.path;
+      lstat = λ _. g.G.Guard.lstat_of i.worktree;
+      opened = λ e. g.G.Guard.open_of i.worktree e.path;
+      linked = λ e. g.G.Guard.target_of i.worktree e.path;
       cached = λ e. known_node settings.fscache (g.L.Lister.listing i.lister) e.path;
       prefix = g.P.Pathspec.prefix i.pathspec;
       included = g.P.Pathspec.included i.pathspec;
@@ -74,8 +75,8 @@ returns-clause-compared g c = λ modelled.
     let i = c.args.inputs.now in
     let path = bstr_bytes c.args.candidate.now.path in
     let specified = entry_readings c.reads_link-is_link.result (λ x. g.T.ToGit.conversion i.filter x path) c.args.candidate.now.node.len
-    (g.W.Worktree.open_of i.worktree.worktree.now path) (g.W.Worktree.target_of i.worktree.worktree.now path) (g.O.Find.found i.objects c.args.candidate.now.entry.now.id) in
-    let some = all_specified (g.W.Worktree.modelled i.worktree.worktree.now) (g.O.Find.modelled i.objects) (g.S.SubmoduleStatus.modelled i.submodule)
+    (g.G.Guard.open_of i.worktree path) (g.G.Guard.target_of i.worktree path) (g.O.Find.found i.objects c.args.candidate.now.entry.now.id) in
+    let some = all_specified (g.G.Guard.modelled i.worktree) (g.O.Find.modelled i.objects) (g.S.SubmoduleStatus.modelled i.submodule)
     (are_modelled c.args.settings.fscache (g.L.Lister.modelled i.lister)) specified modelled in
     let answer = rw (c.reader_of-reader.ensures (read c.reads_link-is_link.ensures c.requires.looked), some) at (c.in_ok-change.ensures.answer path) in
     let counts = rw (c.reader_of-reader.ensures (read c.reads_link-is_link.ensures c.requires.looked), some) at (c.in_ok-change.ensures.counts path) in
@@ -85,15 +86,15 @@ pub returns-clause-same : goal.returns-clause-same
 returns-clause-same g c =
     let i = c.args.inputs.now in
     λ k settings. record {
-      modelled = all_modelled (g.W.Worktree.modelled i.worktree.worktree.now) (g.O.Find.modelled i.objects) (g.S.SubmoduleStatus.modelled i.submodule)
+      modelled = all_modelled (g.G.Guard.modelled i.worktree) (g.O.Find.modelled i.objects) (g.S.SubmoduleStatus.modelled i.submodule)
           (are_modelled settings.fscache (g.L.Lister.modelled i.lister));
       stat_options = settings.stat;
       symlink = settings.fs.symlink;
       executable_bit = settings.fs.executable_bit;
       timestamp = settings.timestamp;
-      lstat = λ _. g.W.Worktree.lstat_of i.worktree.worktree.now;
-      opened = λ e. g.W.Worktree.open_of i.worktree.worktree.now e.path;
-      linked = λ e. g.W.Worktree.target_of i.worktree.worktree.now e.path;
+      lstat = λ _. g.G.Guard.lstat_of i.worktree;
+      opened = λ e. g.G.Guard.open_of i.worktree e.path;
+      linked = λ e. g.G.Guard.target_of i.worktree e.path;
       cached = λ e. known_node settings.fscache (g.L.Lister.listing i.lister) e.path;
       prefix = g.P.Pathspec.prefix i.pathspec;
       included = g.P.Pathspec.included i.pathspec;

@@ -10,7 +10,7 @@ returns g c = λ looked. rw c.none.ensures (same_anyhow (λ known. record {
   id = c.args.candidate.now.entry.now.id;
   path = c.args.candidate.now.path;
   is_link = c.args.is_link;
-  len = c.args.candidate.now.node.len;
+  node = c.args.candidate.now.node;
   reads = no_reads;
   looked = known;
 }) _ _)

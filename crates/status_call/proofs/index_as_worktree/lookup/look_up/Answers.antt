@@ -10,14 +10,14 @@ use Rattle.status_call.proofs.index_as_worktree.lookup.look_up.Goals as goal
 
 pub returns-in-Err-clause-look : goal.returns-in-Err-clause-look
 returns-in-Err-clause-look g c =
-    let lstat = g.W.Worktree.lstat_of c.args.worktree.worktree.now in
+    let lstat = g.G.Guard.lstat_of c.args.worktree.now in
     let path = bstr_bytes c.args.path in
     let known = known_node c.args.fscache (g.L.Lister.listing c.args.lister.now) path in
     λ reported listings clear kept. c.look_refused.ensures.look (link_check lstat path) (cached_or known (lstat path)) (not (is_some known)) (c.in-Err.ensures.answer reported clear)
 
 pub returns-in-Some-clause-look : goal.returns-in-Some-clause-look
 returns-in-Some-clause-look g c =
-    let lstat = g.W.Worktree.lstat_of c.args.worktree.worktree.now in
+    let lstat = g.G.Guard.lstat_of c.args.worktree.now in
     let path = bstr_bytes c.args.path in
     let known = known_node c.args.fscache (g.L.Lister.listing c.args.lister.now) path in
     λ reported listings clear kept.
@@ -26,7 +26,7 @@ returns-in-Some-clause-look g c =
 
 pub returns-in-Ok-clause-look : goal.returns-in-Ok-clause-look
 returns-in-Ok-clause-look g c =
-    let lstat = g.W.Worktree.lstat_of c.args.worktree.worktree.now in
+    let lstat = g.G.Guard.lstat_of c.args.worktree.now in
     let path = bstr_bytes c.args.path in
     let known = known_node c.args.fscache (g.L.Lister.listing c.args.lister.now) path in
     λ reported listings clear kept.
@@ -57,25 +57,25 @@ returns-in-Err-clause-seen g c = λ opened listed.
 pub returns-in-Some-clause-seen : goal.returns-in-Some-clause-seen
 returns-in-Some-clause-seen g c = λ opened listed.
     let check = c.in_default.ensures.seen opened in
-    seen_accepted (g.W.Worktree.may_stat c.args.worktree.worktree.now) (g.L.Lister.may_list c.args.lister.now) c.args.fscache (bstr_bytes c.args.path) check.lstat (Some c.in-Some.node) _ check.allowed
+    seen_accepted (g.G.Guard.may_stat c.args.worktree.now) (g.L.Lister.may_list c.args.lister.now) c.args.fscache (bstr_bytes c.args.path) check.lstat (Some c.in-Some.node) _ check.allowed
     (λ off. sym c.in-Some.is ∙ c.in_ok-node.ensures.unlisted off) (rw c.in-Some.is at (c.in_ok-node.ensures.seen listed)) check.checked c.look_at.ensures.look
 
 pub returns-in-Ok-clause-seen : goal.returns-in-Ok-clause-seen
 returns-in-Ok-clause-seen g c = λ opened listed.
     let check = c.in_default.ensures.seen opened in
-    seen_live (g.W.Worktree.may_stat c.args.worktree.worktree.now) (g.L.Lister.may_list c.args.lister.now) c.args.fscache (bstr_bytes c.args.path) (Ok c.in-Ok.node) check.lstat _ c.in-Ok.ensures.seen check.allowed check.checked c.look_at-in-Ok.ensures.look
+    seen_live (g.G.Guard.may_stat c.args.worktree.now) (g.L.Lister.may_list c.args.lister.now) c.args.fscache (bstr_bytes c.args.path) (Ok c.in-Ok.node) check.lstat _ c.in-Ok.ensures.seen check.allowed check.checked c.look_at-in-Ok.ensures.look
 
 pub returns-in-Err-lstat-clause-seen : goal.returns-in-Err-lstat-clause-seen
 returns-in-Err-lstat-clause-seen g c = λ opened listed.
     let check = c.in_default.ensures.seen opened in
-    seen_live (g.W.Worktree.may_stat c.args.worktree.worktree.now) (g.L.Lister.may_list c.args.lister.now) c.args.fscache (bstr_bytes c.args.path) (Err c.in-Err-lstat.fault) check.lstat _ c.in-Err-lstat.ensures.seen check.allowed check.checked c.look_at_fault.ensures.look
+    seen_live (g.G.Guard.may_stat c.args.worktree.now) (g.L.Lister.may_list c.args.lister.now) c.args.fscache (bstr_bytes c.args.path) (Err c.in-Err-lstat.fault) check.lstat _ c.in-Err-lstat.ensures.seen check.allowed check.checked c.look_at_fault.ensures.look
 
 pub returns-in-Err-clause-met : goal.returns-in-Err-clause-met
 returns-in-Err-clause-met g c = λ opened. nothing_met _ c.look_refused.result c.look_refused.ensures.nothing
 
 pub returns-in-Some-clause-met : goal.returns-in-Some-clause-met
 returns-in-Some-clause-met g c = λ opened.
-    let may = g.W.Worktree.may_stat c.args.worktree.worktree.now in
+    let may = g.G.Guard.may_stat c.args.worktree.now in
     met_at may c.args.fscache (bstr_bytes c.args.path) c.in-Some.node c.look_at.result
     (record {
       above = open_now may (bstr_bytes c.args.path) c.in_default.ensures.after.path (c.in_default.ensures.after.after.«open» opened);
@@ -85,7 +85,7 @@ returns-in-Some-clause-met g c = λ opened.
 
 pub returns-in-Ok-clause-met : goal.returns-in-Ok-clause-met
 returns-in-Ok-clause-met g c = λ opened.
-    let may = g.W.Worktree.may_stat c.args.worktree.worktree.now in
+    let may = g.G.Guard.may_stat c.args.worktree.now in
     met_at may c.args.fscache (bstr_bytes c.args.path) c.in-Ok.node c.look_at-in-Ok.result
     (record {
       above = open_now may (bstr_bytes c.args.path) c.in_default.ensures.after.path (c.in_default.ensures.after.after.«open» opened);

@@ -11,7 +11,7 @@ returns-in_err-read_link-clause-seen g c =
     let p = err_from_is_err_and c.from_residual.result c.from_residual.ensures.1 in
     rw (p.1, p.2) (record {
       opened = Err Memory;
-      may_open = g.met.W.Worktree.open_may_fail r.worktree.worktree.now (bstr_bytes r.path);
+      may_open = g.met.G.Guard.open_may_fail r.worktree.now (bstr_bytes r.path) r.node;
       linked = Err c.in_err-read_link.field-0.0;
       may_link = c.in_err-read_link.ensures.seen;
       is = refl;

@@ -36,15 +36,15 @@ returns-clause-decided g c =
     let i = c.args.self.now.inputs in
     let s = c.args.self.now.settings in
     let q : Query g.row.C-Output.Denot g.row.S-Output.Denot = record {
-      modelled = all_modelled (g.W.Worktree.modelled i.worktree.worktree.now) (g.O.Find.modelled i.objects) (g.S.SubmoduleStatus.modelled i.submodule)
+      modelled = all_modelled (g.G.Guard.modelled i.worktree) (g.O.Find.modelled i.objects) (g.S.SubmoduleStatus.modelled i.submodule)
           (are_modelled s.fscache (g.L.Lister.modelled i.lister));
       stat_options = s.stat;
       symlink = s.fs.symlink;
       executable_bit = s.fs.executable_bit;
       timestamp = s.timestamp;
-      lstat = λ _. g.W.Worktree.lstat_of i.worktree.worktree.now;
-      opened = λ e. g.W.Worktree.open_of i.worktree.worktree.now e.path;
-      linked = λ e. g.W.Worktree.target_of i.worktree.worktree.now e.path;
+      lstat = λ _. g.G.Guard.lstat_of i.worktree;
+      opened = λ e. g.G.Guard.open_of i.worktree e.path;
+      linked = λ e. g.G.Guard.target_of i.worktree e.path;
       cached = λ e. known_node s.fscache (g.L.Lister.listing i.lister) e.path;
       prefix = g.P.Pathspec.prefix i.pathspec;
       included = g.P.Pathspec.included i.pathspec;
@@ -67,7 +67,7 @@ returns-then-not-compares-clause-seen g c =
     let e = candidate_entry c.args.candidate.now in
     record {
       view = nothing_seen;
-      allowed = record { opened = g.met.W.Worktree.open_may_fail i.worktree.worktree.now e.path; linked = g.met.W.Worktree.link_may_fail i.worktree.worktree.now e.path; blob = g.met.O.Find.find_may_fail i.objects e.id };
+      allowed = record { opened = g.met.G.Guard.open_may_fail i.worktree e.path c.args.candidate.now.node; linked = g.met.G.Guard.link_may_fail i.worktree e.path c.args.candidate.now.node; blob = g.met.O.Find.find_may_fail i.objects e.id };
       decided = λ _. unread_of_case (viewed c.args.self.now.settings (g.T.ToGit.conversion i.filter) (g.C.CompareBlobs.answer i.compare) (g.C.CompareBlobs.counts_after i.compare) nothing_seen) e c.args.candidate.now.node c.args.stat c.args.executable_bit_changed c.is_trusted-trusted.result c.is_racy-racy.result c.needs_comparison-compares.result _ _
           c.is_trusted-trusted.ensures c.is_racy-racy.ensures c.needs_comparison-compares.ensures c.if-not-compares.true c.unread.ensures;
     }
@@ -105,4 +105,4 @@ compare_node-requires g c =
     let i = c.args.self.now.inputs in
     let s = c.args.self.now.settings in
     let candidate = c.args.candidate.now in
-    record { looked = subst (λ (listed : Bool). IsLookedAt (g.W.Worktree.may_stat i.worktree.worktree.now) listed (bstr_bytes candidate.path) (kind_read (reads_link s.fs.symlink candidate.entry.now.mode candidate.node.kind))) (sym c.args.self.now.guard) c.requires.looked }
+    record { looked = subst (λ (listed : Bool). IsLookedAt (g.G.Guard.may_stat i.worktree) listed (bstr_bytes candidate.path) candidate.node (kind_read (reads_link s.fs.symlink candidate.entry.now.mode candidate.node.kind))) (sym c.args.self.now.guard) c.requires.looked }

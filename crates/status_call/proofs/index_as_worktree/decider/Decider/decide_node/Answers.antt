@@ -13,7 +13,7 @@ returns-then-intersects-clause-seen g c =
     let decided : IsNodeDecided (viewed c.args.self.now.settings (g.T.ToGit.conversion i.filter) (g.C.CompareBlobs.answer i.compare) (g.C.CompareBlobs.counts_after i.compare) nothing_seen) e c.args.candidate.now.node (Ok c.unread.result) = search rules in
     record {
       view = nothing_seen;
-      allowed = record { opened = g.met.W.Worktree.open_may_fail i.worktree.worktree.now e.path; linked = g.met.W.Worktree.link_may_fail i.worktree.worktree.now e.path; blob = g.met.O.Find.find_may_fail i.objects e.id };
+      allowed = record { opened = g.met.G.Guard.open_may_fail i.worktree e.path c.args.candidate.now.node; linked = g.met.G.Guard.link_may_fail i.worktree e.path c.args.candidate.now.node; blob = g.met.O.Find.find_may_fail i.objects e.id };
       decided = decided;
     }
 
@@ -24,7 +24,7 @@ returns-in_err-stat-clause-seen g c =
     let decided : IsNodeDecided (viewed c.args.self.now.settings (g.T.ToGit.conversion i.filter) (g.C.CompareBlobs.answer i.compare) (g.C.CompareBlobs.counts_after i.compare) nothing_seen) e c.args.candidate.now.node c.from_residual.result = search rules in
     record {
       view = nothing_seen;
-      allowed = record { opened = g.met.W.Worktree.open_may_fail i.worktree.worktree.now e.path; linked = g.met.W.Worktree.link_may_fail i.worktree.worktree.now e.path; blob = g.met.O.Find.find_may_fail i.objects e.id };
+      allowed = record { opened = g.met.G.Guard.open_may_fail i.worktree e.path c.args.candidate.now.node; linked = g.met.G.Guard.link_may_fail i.worktree e.path c.args.candidate.now.node; blob = g.met.O.Find.find_may_fail i.objects e.id };
       decided = decided;
     }
 
@@ -35,7 +35,7 @@ returns-in-Some-TypeChange-clause-seen g c =
     let decided : IsNodeDecided (viewed c.args.self.now.settings (g.T.ToGit.conversion i.filter) (g.C.CompareBlobs.answer i.compare) (g.C.CompareBlobs.counts_after i.compare) nothing_seen) e c.args.candidate.now.node (Ok c.unread-in-Some-TypeChange.result) = search rules in
     record {
       view = nothing_seen;
-      allowed = record { opened = g.met.W.Worktree.open_may_fail i.worktree.worktree.now e.path; linked = g.met.W.Worktree.link_may_fail i.worktree.worktree.now e.path; blob = g.met.O.Find.find_may_fail i.objects e.id };
+      allowed = record { opened = g.met.G.Guard.open_may_fail i.worktree e.path c.args.candidate.now.node; linked = g.met.G.Guard.link_may_fail i.worktree e.path c.args.candidate.now.node; blob = g.met.O.Find.find_may_fail i.objects e.id };
       decided = decided;
     }
 
@@ -43,10 +43,10 @@ pub decide_content-requires : goal.decide_content-requires
 decide_content-requires g c =
     let s = c.args.self.now.settings in
     let candidate = c.args.candidate.now in
-    record { looked = looked_executable (g.W.Worktree.may_stat c.args.self.now.inputs.worktree.worktree.now) s.fscache (bstr_bytes candidate.path) s.fs.symlink s.fs.executable_bit candidate.entry.now.mode candidate.node c.requires.met (sym c.change_to_match_fs.ensures ∙ c.in-Some-ExecutableBit.is ∙ ap Some c.in-Some-ExecutableBit.field-0-is) }
+    record { looked = looked_executable (g.G.Guard.may_stat c.args.self.now.inputs.worktree) s.fscache (bstr_bytes candidate.path) s.fs.symlink s.fs.executable_bit candidate.entry.now.mode candidate.node c.requires.met (sym c.change_to_match_fs.ensures ∙ c.in-Some-ExecutableBit.is ∙ ap Some c.in-Some-ExecutableBit.field-0-is) }
 
 pub decide_content-requires-in-None : goal.decide_content-requires-in-None
 decide_content-requires-in-None g c =
     let s = c.args.self.now.settings in
     let candidate = c.args.candidate.now in
-    record { looked = looked_unchanged (g.W.Worktree.may_stat c.args.self.now.inputs.worktree.worktree.now) s.fscache (bstr_bytes candidate.path) s.fs.symlink s.fs.executable_bit candidate.entry.now.mode candidate.node c.requires.met (sym c.change_to_match_fs.ensures ∙ c.in-None.is) }
+    record { looked = looked_unchanged (g.G.Guard.may_stat c.args.self.now.inputs.worktree) s.fscache (bstr_bytes candidate.path) s.fs.symlink s.fs.executable_bit candidate.entry.now.mode candidate.node c.requires.met (sym c.change_to_match_fs.ensures ∙ c.in-None.is) }

@@ -16,7 +16,7 @@ invariant_of-self g c = record {
 pub returns-clause-look : goal.returns-clause-look
 returns-clause-look g c =
     let i = c.args.self.now.inputs in
-    let a = g.W.Worktree.modelled i.worktree.worktree.now in
+    let a = g.G.Guard.modelled i.worktree in
     let b = g.O.Find.modelled i.objects in
     let d = g.S.SubmoduleStatus.modelled i.submodule in
     let l = are_modelled c.args.self.now.settings.fscache (g.L.Lister.modelled i.lister) in

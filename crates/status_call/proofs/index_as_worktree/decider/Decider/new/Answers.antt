@@ -10,4 +10,4 @@ use Rattle.status_call.proofs.index_as_worktree.decider.Decider.new.Goals as goa
 pub invariant_of-result : goal.invariant_of-result
 invariant_of-result g c =
     let listing = g.L.Lister.listing c.args.inputs.lister in
-    record { guard = c.requires.guard; clear = search rules; opened = merely (subst (IsOpen (g.W.Worktree.may_stat c.args.inputs.worktree.worktree.now)) (sym (ap (λ (s : CheckState). s.path) c.new-check.ensures)) (open_nothing _ (g.met.W.Worktree.stat_may_fail c.args.inputs.worktree.worktree.now))); listed = merely (subst (HasListedSeen (g.L.Lister.may_list c.args.inputs.lister)) (sym c.new-listings.ensures) (empty-HasListedSeen (g.L.Lister.may_list c.args.inputs.lister))); kept = λ modelled. subst (HasListedNames listing) (sym c.new-listings.ensures) (empty-HasListedNames listing) }
+    record { guard = c.requires.guard; clear = search rules; opened = merely (subst (IsOpen (g.G.Guard.may_stat c.args.inputs.worktree)) (sym (ap (λ (s : CheckState). s.path) c.new-check.ensures)) (open_nothing _ (g.met.G.Guard.stat_may_fail c.args.inputs.worktree))); listed = merely (subst (HasListedSeen (g.L.Lister.may_list c.args.inputs.lister)) (sym c.new-listings.ensures) (empty-HasListedSeen (g.L.Lister.may_list c.args.inputs.lister))); kept = λ modelled. subst (HasListedNames listing) (sym c.new-listings.ensures) (empty-HasListedNames listing) }

@@ -27,15 +27,15 @@ returns-in_ok-decided-in-Node-clause-answer g c =
     let i = c.args.self.now.inputs in
     let s = c.args.self.now.settings in
     let q : Query g.row.C-Output.Denot g.row.S-Output.Denot = record {
-      modelled = all_modelled (g.W.Worktree.modelled i.worktree.worktree.now) (g.O.Find.modelled i.objects) (g.S.SubmoduleStatus.modelled i.submodule)
+      modelled = all_modelled (g.G.Guard.modelled i.worktree) (g.O.Find.modelled i.objects) (g.S.SubmoduleStatus.modelled i.submodule)
           (are_modelled s.fscache (g.L.Lister.modelled i.lister));
       stat_options = s.stat;
       symlink = s.fs.symlink;
       executable_bit = s.fs.executable_bit;
       timestamp = s.timestamp;
-      lstat = λ _. g.W.Worktree.lstat_of i.worktree.worktree.now;
-      opened = λ e. g.W.Worktree.open_of i.worktree.worktree.now e.path;
-      linked = λ e. g.W.Worktree.target_of i.worktree.worktree.now e.path;
+      lstat = λ _. g.G.Guard.lstat_of i.worktree;
+      opened = λ e. g.G.Guard.open_of i.worktree e.path;
+      linked = λ e. g.G.Guard.target_of i.worktree e.path;
       cached = λ e. known_node s.fscache (g.L.Lister.listing i.lister) e.path;
       prefix = g.P.Pathspec.prefix i.pathspec;
       included = g.P.Pathspec.included i.pathspec;
@@ -59,15 +59,15 @@ returns-in_err-decided-in-Node-clause-answer g c =
     let i = c.args.self.now.inputs in
     let s = c.args.self.now.settings in
     let q : Query g.row.C-Output.Denot g.row.S-Output.Denot = record {
-      modelled = all_modelled (g.W.Worktree.modelled i.worktree.worktree.now) (g.O.Find.modelled i.objects) (g.S.SubmoduleStatus.modelled i.submodule)
+      modelled = all_modelled (g.G.Guard.modelled i.worktree) (g.O.Find.modelled i.objects) (g.S.SubmoduleStatus.modelled i.submodule)
           (are_modelled s.fscache (g.L.Lister.modelled i.lister));
       stat_options = s.stat;
       symlink = s.fs.symlink;
       executable_bit = s.fs.executable_bit;
       timestamp = s.timestamp;
-      lstat = λ _. g.W.Worktree.lstat_of i.worktree.worktree.now;
-      opened = λ e. g.W.Worktree.open_of i.worktree.worktree.now e.path;
-      linked = λ e. g.W.Worktree.target_of i.worktree.worktree.now e.path;
+      lstat = λ _. g.G.Guard.lstat_of i.worktree;
+      opened = λ e. g.G.Guard.open_of i.worktree e.path;
+      linked = λ e. g.G.Guard.target_of i.worktree e.path;
       cached = λ e. known_node s.fscache (g.L.Lister.listing i.lister) e.path;
       prefix = g.P.Pathspec.prefix i.pathspec;
       included = g.P.Pathspec.included i.pathspec;
@@ -98,15 +98,15 @@ returns-in_ok-decided-in-Directory-clause-answer g c =
     let i = c.args.self.now.inputs in
     let s = c.args.self.now.settings in
     let q : Query g.row.C-Output.Denot g.row.S-Output.Denot = record {
-      modelled = all_modelled (g.W.Worktree.modelled i.worktree.worktree.now) (g.O.Find.modelled i.objects) (g.S.SubmoduleStatus.modelled i.submodule)
+      modelled = all_modelled (g.G.Guard.modelled i.worktree) (g.O.Find.modelled i.objects) (g.S.SubmoduleStatus.modelled i.submodule)
           (are_modelled s.fscache (g.L.Lister.modelled i.lister));
       stat_options = s.stat;
       symlink = s.fs.symlink;
       executable_bit = s.fs.executable_bit;
       timestamp = s.timestamp;
-      lstat = λ _. g.W.Worktree.lstat_of i.worktree.worktree.now;
-      opened = λ e. g.W.Worktree.open_of i.worktree.worktree.now e.path;
-      linked = λ e. g.W.Worktree.target_of i.worktree.worktree.now e.path;
+      lstat = λ _. g.G.Guard.lstat_of i.worktree;
+      opened = λ e. g.G.Guard.open_of i.worktree e.path;
+      linked = λ e. g.G.Guard.target_of i.worktree e.path;
       cached = λ e. known_node s.fscache (g.L.Lister.listing i.lister) e.path;
       prefix = g.P.Pathspec.prefix i.pathspec;
       included = g.P.Pathspec.included i.pathspec;
@@ -129,15 +129,15 @@ returns-in_err-decided-in-Directory-clause-answer g c =
     let i = c.args.self.now.inputs in
     let s = c.args.self.now.settings in
     let q : Query g.row.C-Output.Denot g.row.S-Output.Denot = record {
-      modelled = all_modelled (g.W.Worktree.modelled i.worktree.worktree.now) (g.O.Find.modelled i.objects) (g.S.SubmoduleStatus.modelled i.submodule)
+      modelled = all_modelled (g.G.Guard.modelled i.worktree) (g.O.Find.modelled i.objects) (g.S.SubmoduleStatus.modelled i.submodule)
           (are_modelled s.fscache (g.L.Lister.modelled i.lister));
       stat_options = s.stat;
       symlink = s.fs.symlink;
       executable_bit = s.fs.executable_bit;
       timestamp = s.timestamp;
-      lstat = λ _. g.W.Worktree.lstat_of i.worktree.worktree.now;
-      opened = λ e. g.W.Worktree.open_of i.worktree.worktree.now e.path;
-      linked = λ e. g.W.Worktree.target_of i.worktree.worktree.now e.path;
+      lstat = λ _. g.G.Guard.lstat_of i.worktree;
+      opened = λ e. g.G.Guard.open_of i.worktree e.path;
+      linked = λ e. g.G.Guard.target_of i.worktree e.path;
       cached = λ e. known_node s.fscache (g.L.Lister.listing i.lister) e.path;
       prefix = g.P.Pathspec.prefix i.pathspec;
       included = g.P.Pathspec.included i.pathspec;
@@ -167,8 +167,8 @@ pub returns-in_err-presence-clause-seen : goal.returns-in_err-presence-clause-se
 returns-in_err-presence-clause-seen g c =
     let i = c.args.self.now.inputs in
     let e = entry_at (bstr_bytes c.args.path) c.args.entry.now in
-    let may : MayReturn g.row.S-Output.Denot = record { stat = g.W.Worktree.may_stat i.worktree.worktree.now; opened = g.W.Worktree.may_open i.worktree.worktree.now; linked = g.W.Worktree.may_link i.worktree.worktree.now; listed = g.L.Lister.may_list i.lister; found = g.O.Find.may_find i.objects; reported = g.S.SubmoduleStatus.may_report i.submodule } in
-    let free = free_view may c.args.self.now.settings.fscache e (g.met.W.Worktree.stat_may_fail i.worktree.worktree.now) (g.met.W.Worktree.open_may_fail i.worktree.worktree.now e.path) (g.met.W.Worktree.link_may_fail i.worktree.worktree.now e.path) (g.met.O.Find.find_may_fail i.objects e.id) in
+    let may : MayReturn g.row.S-Output.Denot = record { stat = g.G.Guard.may_stat i.worktree; opened = g.G.Guard.may_open i.worktree; linked = g.G.Guard.may_link i.worktree; listed = g.L.Lister.may_list i.lister; found = g.O.Find.may_find i.objects; reported = g.S.SubmoduleStatus.may_report i.submodule } in
+    let free = free_view may c.args.self.now.settings.fscache e (g.met.G.Guard.stat_may_fail i.worktree) in
     let p = err_from_is_err_and c.from_residual.result c.from_residual.ensures.1 in
     rw (p.1, p.2) (∥∥₁_map c.in_err-presence.ensures.seen (seen_refused _ e may _ free _))
 
@@ -176,19 +176,18 @@ pub returns-in-Nothing-clause-seen : goal.returns-in-Nothing-clause-seen
 returns-in-Nothing-clause-seen g c =
     let i = c.args.self.now.inputs in
     let e = entry_at (bstr_bytes c.args.path) c.args.entry.now in
-    let may : MayReturn g.row.S-Output.Denot = record { stat = g.W.Worktree.may_stat i.worktree.worktree.now; opened = g.W.Worktree.may_open i.worktree.worktree.now; linked = g.W.Worktree.may_link i.worktree.worktree.now; listed = g.L.Lister.may_list i.lister; found = g.O.Find.may_find i.objects; reported = g.S.SubmoduleStatus.may_report i.submodule } in
-    let free = free_view may c.args.self.now.settings.fscache e (g.met.W.Worktree.stat_may_fail i.worktree.worktree.now) (g.met.W.Worktree.open_may_fail i.worktree.worktree.now e.path) (g.met.W.Worktree.link_may_fail i.worktree.worktree.now e.path) (g.met.O.Find.find_may_fail i.objects e.id) in
+    let may : MayReturn g.row.S-Output.Denot = record { stat = g.G.Guard.may_stat i.worktree; opened = g.G.Guard.may_open i.worktree; linked = g.G.Guard.may_link i.worktree; listed = g.L.Lister.may_list i.lister; found = g.O.Find.may_find i.objects; reported = g.S.SubmoduleStatus.may_report i.submodule } in
     let look = c.in_ok-presence.field-0 in
     ∥∥₁_map c.in_ok-presence.ensures.seen (λ s.
-    seen_found _ e may _ look presences.Nothing c.in-Nothing.is s nothing_seen free.content (λ h. absurd (cc)) (Ok c.unread.result)
+    seen_found _ e may _ look presences.Nothing c.in-Nothing.is s nothing_seen tt (λ h. absurd (cc)) (Ok c.unread.result)
     (unread_case (bstr_bytes c.args.path) gone (Some (statuses.Change changes.Removed)) look.lstat_called no_reads c.unread.result c.unread.ensures refl refl refl))
 
 pub returns-in_ok-decided-in-Directory-clause-seen : goal.returns-in_ok-decided-in-Directory-clause-seen
 returns-in_ok-decided-in-Directory-clause-seen g c =
     let i = c.args.self.now.inputs in
     let e = entry_at (bstr_bytes c.args.path) c.args.entry.now in
-    let may : MayReturn g.row.S-Output.Denot = record { stat = g.W.Worktree.may_stat i.worktree.worktree.now; opened = g.W.Worktree.may_open i.worktree.worktree.now; linked = g.W.Worktree.may_link i.worktree.worktree.now; listed = g.L.Lister.may_list i.lister; found = g.O.Find.may_find i.objects; reported = g.S.SubmoduleStatus.may_report i.submodule } in
-    let free = free_view may c.args.self.now.settings.fscache e (g.met.W.Worktree.stat_may_fail i.worktree.worktree.now) (g.met.W.Worktree.open_may_fail i.worktree.worktree.now e.path) (g.met.W.Worktree.link_may_fail i.worktree.worktree.now e.path) (g.met.O.Find.find_may_fail i.objects e.id) in
+    let may : MayReturn g.row.S-Output.Denot = record { stat = g.G.Guard.may_stat i.worktree; opened = g.G.Guard.may_open i.worktree; linked = g.G.Guard.may_link i.worktree; listed = g.L.Lister.may_list i.lister; found = g.O.Find.may_find i.objects; reported = g.S.SubmoduleStatus.may_report i.submodule } in
+    let free = free_view may c.args.self.now.settings.fscache e (g.met.G.Guard.stat_may_fail i.worktree) in
     let look = c.in_ok-presence.field-0 in
     let said = rw c.look.ensures.inputs at c.in_ok-decided-in-Directory.ensures.seen in
     ∥∥₁_map c.in_ok-presence.ensures.seen (λ s. directory_seen _ e may _ look presences.Directory c.in-Directory.is s refl free c.in_ok-decided-in-Directory.decided said)
@@ -197,8 +196,8 @@ pub returns-in_err-decided-in-Directory-clause-seen : goal.returns-in_err-decide
 returns-in_err-decided-in-Directory-clause-seen g c =
     let i = c.args.self.now.inputs in
     let e = entry_at (bstr_bytes c.args.path) c.args.entry.now in
-    let may : MayReturn g.row.S-Output.Denot = record { stat = g.W.Worktree.may_stat i.worktree.worktree.now; opened = g.W.Worktree.may_open i.worktree.worktree.now; linked = g.W.Worktree.may_link i.worktree.worktree.now; listed = g.L.Lister.may_list i.lister; found = g.O.Find.may_find i.objects; reported = g.S.SubmoduleStatus.may_report i.submodule } in
-    let free = free_view may c.args.self.now.settings.fscache e (g.met.W.Worktree.stat_may_fail i.worktree.worktree.now) (g.met.W.Worktree.open_may_fail i.worktree.worktree.now e.path) (g.met.W.Worktree.link_may_fail i.worktree.worktree.now e.path) (g.met.O.Find.find_may_fail i.objects e.id) in
+    let may : MayReturn g.row.S-Output.Denot = record { stat = g.G.Guard.may_stat i.worktree; opened = g.G.Guard.may_open i.worktree; linked = g.G.Guard.may_link i.worktree; listed = g.L.Lister.may_list i.lister; found = g.O.Find.may_find i.objects; reported = g.S.SubmoduleStatus.may_report i.submodule } in
+    let free = free_view may c.args.self.now.settings.fscache e (g.met.G.Guard.stat_may_fail i.worktree) in
     let look = c.in_ok-presence.field-0 in
     let said = rw c.look.ensures.inputs at c.in_err-decided-in-Directory.ensures.seen in
     let p = err_from_is_err_and c.from_residual-in_err-decided-in-Directory.result c.from_residual-in_err-decided-in-Directory.ensures.1 in

@@ -12,15 +12,15 @@ returns-clause-same g c =
     let filter = c.in_ok-clone-5.ensures.cases in
     let lister = c.in_ok-clone-6.ensures.cases in
     λ k settings. record {
-      modelled = all_modelled (g.W.Worktree.modelled i.worktree.worktree.now) (g.met.O.Find.clone_keeps_modelled i.objects c.in_ok-clone-3.field-0 objects k) (g.met.S.SubmoduleStatus.clone_keeps_modelled i.submodule c.in_ok-clone-2.field-0 submodule k)
+      modelled = all_modelled (g.G.Guard.modelled i.worktree) (g.met.O.Find.clone_keeps_modelled i.objects c.in_ok-clone-3.field-0 objects k) (g.met.S.SubmoduleStatus.clone_keeps_modelled i.submodule c.in_ok-clone-2.field-0 submodule k)
           (are_modelled settings.fscache (g.met.L.Lister.clone_keeps_modelled i.lister c.in_ok-clone-6.field-0 lister k));
       stat_options = settings.stat;
       symlink = settings.fs.symlink;
       executable_bit = settings.fs.executable_bit;
       timestamp = settings.timestamp;
-      lstat = λ _. g.W.Worktree.lstat_of i.worktree.worktree.now;
-      opened = λ e. g.W.Worktree.open_of i.worktree.worktree.now e.path;
-      linked = λ e. g.W.Worktree.target_of i.worktree.worktree.now e.path;
+      lstat = λ _. g.G.Guard.lstat_of i.worktree;
+      opened = λ e. g.G.Guard.open_of i.worktree e.path;
+      linked = λ e. g.G.Guard.target_of i.worktree e.path;
       cached = λ e. known_node settings.fscache (g.met.L.Lister.clone_keeps_listing i.lister c.in_ok-clone-6.field-0 lister k) e.path;
       prefix = g.met.P.Pathspec.clone_keeps_prefix i.pathspec c.in_ok-clone-4.field-0 pathspec k;
       included = g.met.P.Pathspec.clone_keeps_included i.pathspec c.in_ok-clone-4.field-0 pathspec k;

@@ -1,4 +1,4 @@
-use Rattle.status_base.proofs.worktree.guarded.GuardedWorktree.verify.Goals as goal
+use Rattle.status_base.proofs.worktree.guarded.GuardedWorktreeGuard.verify.Goals as goal
 
 pub returns-in-Err-clause-seen : goal.returns-in-Err-clause-seen
 returns-in-Err-clause-seen g c = λ opened.
