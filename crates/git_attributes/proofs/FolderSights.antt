@@ -25,8 +25,8 @@ found_in_memory NoFile = λ memory. cc
 found_in_memory NoFolder = λ memory. cc
 
 -- a file that `lstat` found at a path whose directories were checked
-pub file_looked : (may : MayStat) (listed : Bool) (path : List ℕ) (node : Metadata) → IsOpen may path → may path (Ok node) → node.kind ≡ FileNode → IsLookedAt may listed path FileNode
-file_looked may listed path node above here is = merely (record { node = node; met = record { above = above; here = λ _. here }; is = is })
+pub file_looked : (may : MayStat) (listed : Bool) (path : List ℕ) (node : Metadata) → IsOpen may path → may path (Ok node) → node.kind ≡ FileNode → IsLookedAt may listed path node FileNode
+file_looked may listed path node above here is = merely (record { met = record { above = above; here = λ _. here }; is = is })
 
 -- a fault at a path
 pub read_fault : {V E : Type 0} (may_stat : Result Metadata Fault → Type 0) (may_open : MayOpen) (f : Fault) (items : V → List ℕ) (result : Result (Option V) E) → may_stat (Err f) → may_open (Err faults.Memory)

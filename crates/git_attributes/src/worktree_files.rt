@@ -18,7 +18,7 @@ use crate::files::{AttributeFile, AttributeFiles};
 use crate::words::first_at;
 use bstr::{BStr, BString};
 use status_base::stack::{StackError, SymlinkCheck};
-use status_base::worktree::{Fault, GuardedWorktree, NodeKind, Worktree};
+use status_base::worktree::{Fault, Guard, GuardedWorktree, Metadata, NodeKind, Worktree};
 use status_index::{State, read_all};
 use std::alloc::{AllocError, Global};
 use std::sync::atomic::{AtomicBool, Ordering};
@@ -53,6 +53,7 @@ impl<W: Worktree> AttributeFiles for WorktreeAttributeFiles<'_, W> {
             alloc,
             worktree: GuardedWorktree::new(self.worktree, false),
             index,
+            has_named: has_named(index),
             unread: self.unread,
         };
         search.files()
@@ -76,6 +77,8 @@ struct FolderSearch<'s, W> {
     alloc: Global,
     worktree: GuardedWorktree<'s, W>,
     index: &'s State,
+    /// Whether an entry of the index is an attribute file.
+    has_named: bool,
     unread: &'s AtomicBool,
 }
 
@@ -202,7 +205,7 @@ impl<W: Worktree> FolderSearch<'_, W> {
     {
         match self.worktree.lstat(path) {
             Ok(node) if node.kind == NodeKind::File && node.len < ATTRIBUTES_LIMIT as u64 => {
-                read_open(self.alloc, self.worktree, path)
+                read_open(self.alloc, self.worktree, path, &node)
             }
             Ok(_) => Ok(None),
             Err(fault) => none_unless_memory(fault),
@@ -211,7 +214,7 @@ impl<W: Worktree> FolderSearch<'_, W> {
 
     /// Notes that git would read a file that is only in the index, if its folder may be in the worktree.
     fn note_unread(&self, folder: &[u8], path: BStr<'_>) -> Result<(), AllocError> {
-        if !self.index.entries_at(path).is_empty() && self.may_have(folder)? {
+        if self.has_named && !self.index.entries_at(path).is_empty() && self.may_have(folder)? {
             self.unread.store(true, Ordering::Relaxed);
         }
         Ok(())
@@ -229,6 +232,15 @@ impl<W: Worktree> FolderSearch<'_, W> {
             Err(_) => Ok(true),
         }
     }
+}
+
+/// Returns whether an entry of an index is an attribute file.
+fn has_named(index: &State) -> bool {
+    let backing = index.path_backing();
+    index
+        .entries()
+        .iter()
+        .any(|entry| entry.path_in(backing).as_bytes().ends_with(NAME))
 }
 
 /// Returns the attribute file of a folder, with these bytes.
@@ -256,16 +268,17 @@ fn found_barred(error: StackError<'_>) -> Result<Found, AllocError>
     }
 }
 
-/// Opens the file that `lstat` found at a path, and returns its bytes. None if it can't be read.
+/// Opens the file that `lstat` found at a path, with this node, and returns its bytes. None if it can't be read.
 fn read_open<W: Worktree>(
     alloc: Global,
     worktree: GuardedWorktree<'_, W>,
     path: BStr<'_>,
+    node: &Metadata,
 ) -> Result<Option<Vec<u8>>, AllocError>
-    requires { IsLookedAt (W.may_stat worktree.worktree.now) worktree.fscache (bstr_bytes path) File }
+    requires { IsLookedAt (W.may_stat worktree.worktree.now) worktree.fscache (bstr_bytes path) node.now File }
     ensures { IfOk result (λ read. IsOpenSeen (W.may_open worktree.entry.worktree.now (bstr_bytes path.entry)) (option_map (λ bytes. bytes.items) read)) }
 {
-    let mut file = match worktree.open(path) {
+    let mut file = match worktree.open(path, node) {
         Ok(file) => file,
         Err(fault) => return none_unless_memory(fault),
     };

@@ -1,5 +1,6 @@
 -- Explanations of more paths, one after the other.
 use Rattle.std.proofs.Common.{◌≡◌, ◌==◌, ◌∙◌, ◌++◌, if◌then◌else◌, ◌||◌, ℕ, Bool, true, false, List, [], ◌∷◌, map, Option, Some, None, Result, Ok, Err, refl, sym, ap, subst}
+use Rattle.std.specs.Global.{Vec}
 use Rattle.std.specs.List.{list_any}
 use Rattle.std.specs.Prelude.{IfSome, OnOk, is_err}
 use Rattle.std.proofs.Math.Bool.{or-false, or_assoc}
@@ -14,15 +15,17 @@ use Rattle.status_base.specs.Sights.{MayStat}
 use Rattle.status_call.specs.Inputs.{settings}
 use Rattle.status_call.specs.declared.index_as_worktree.inputs.Settings.{Settings}
 use Rattle.status_index.specs.Entries.{IndexEntry, entry_at}
+use Rattle.status_index.specs.declared.stat.Metadata.{Metadata}
 use Rattle.status_index.specs.States.{index_of}
 use Rattle.status_index.specs.declared.entry.Entry.{Entry}
 use Rattle.status_index.specs.declared.fault.Fault.{Fault}
 use Rattle.status_index.specs.declared.state.State.{State}
 use Rattle.git_explain.specs.Added.{Adds}
-use Rattle.git_explain.specs.Allowed.{IsSightAllowed, IsSubmoduleAllowed}
+use Rattle.git_explain.specs.Allowed.{IsFileAllowed, IsLinkAllowed, IsSightAllowed, IsSubmoduleAllowed, linked_anyhow, opened_anyhow}
 use Rattle.git_explain.specs.Explained.{AreExplained, IsExplained, IsStatusBySight, IsWhole, entry_of, first_entries, has_line}
 use Rattle.git_explain.specs.declared.explained.Explained.{Explained}
 use Rattle.git_explain.specs.declared.paths.Explanations.{Explanations}
+use Rattle.git_explain.specs.declared.sight.Reading.{Reading}
 
 -- The entry whose path is explained.
 pub entry_is : (x : Explained) (path : List ℕ) (e : Entry) → x.entry.now ≡ e → bstr_bytes x.path ≡ path → entry_of x ≡ entry_at path e
@@ -117,9 +120,42 @@ adds_within may_stat may_open may_link less more settings filter index es old ne
   faults = a.faults;
 }
 
+file_anyhow : (may : MayOpen) (s : Option (Result Reading Fault)) → IfSome s (IsFileAllowed may) → IfSome s (IsFileAllowed (λ r. (n : Metadata) → may r))
+file_anyhow may None h = tt
+file_anyhow may (Some (Ok r)) h = λ n. h
+file_anyhow may (Some (Err f)) h = λ n. h
+
+link_anyhow : (may : Result (List ℕ) Fault → Type 0) (s : Option (Result (Vec ℕ) Fault)) → IfSome s (IsLinkAllowed may) → IfSome s (IsLinkAllowed (λ r. (n : Metadata) → may r))
+link_anyhow may None h = tt
+link_anyhow may (Some (Ok target)) h = λ n. h
+link_anyhow may (Some (Err f)) h = λ n. h
+
+-- The node that was met at a path doesn't matter for what may be read there.
+pub adds_anyhow : {U : Type 0} (may_stat : MayStat) (may_open : List ℕ → MayOpen) (may_link : List ℕ → Result (List ℕ) Fault → Type 0) (may_report : IndexEntry → Result (Option U) (List ℕ) → Type 0)
+    (settings : Settings) (filter : LineEnds) (index : State) (es : List IndexEntry) (old new : Explanations) → Adds may_stat may_open may_link may_report settings filter index es old new
+    → Adds may_stat (λ path r. (n : Metadata) → may_open path r) (λ path r. (n : Metadata) → may_link path r) may_report settings filter index es old new
+adds_anyhow may_stat may_open may_link may_report settings filter index es old new a = record {
+  found = a.found;
+  all = a.all;
+  each = All-weaker (IsExplained may_stat may_open may_link may_report settings filter index)
+      (IsExplained may_stat (λ path r. (n : Metadata) → may_open path r) (λ path r. (n : Metadata) → may_link path r) may_report settings filter index)
+      (λ x h. record {
+        status = h.status;
+        whole = h.whole;
+        allowed = record {
+          calls = h.allowed.calls;
+          file = file_anyhow (may_open (entry_of x).path) x.sight.file h.allowed.file;
+          link = link_anyhow (may_link (entry_of x).path) x.sight.link h.allowed.link;
+          submodule = h.allowed.submodule;
+        };
+      }) a.found a.each;
+  lines = a.lines;
+  faults = a.faults;
+}
+
 -- All selected paths are explained, after none was.
 pub all_explained : {T U : Type 0} (a : Asking T U) (included : List ℕ → Bool → Bool) (index : State) (c : Converting a index) (none all : Explanations) → none.differs ≡ false → none.failed ≡ false
-    → Adds a.may_return.stat a.may_return.opened a.may_return.linked a.may_return.reported (settings a.settings.options index) c.filter index (first_entries included [] (index_of index)) none all
+    → Adds a.may_return.stat (opened_anyhow a.may_return) (linked_anyhow a.may_return) a.may_return.reported (settings a.settings.options index) c.filter index (first_entries included [] (index_of index)) none all
     → AreExplained a included index all.differs all.failed
 all_explained a included index c none all unchanged unfailed h = record {
   converting = c;

@@ -2,12 +2,21 @@
 use Rattle.std.specs.Prelude.{◌≡◌, ℕ, Bool, true, false, List, All, Option, Some, None, Result, Ok, Err, IfSome}
 use Rattle.std.specs.Global.{Vec}
 use Rattle.status_index.specs.declared.fault.Fault.{Fault}
+use Rattle.status_index.specs.declared.stat.Metadata.{Metadata}
 use Rattle.status_base.specs.Openings.{MayOpen}
 use Rattle.status_base.specs.Sights.{MayStat}
+use Rattle.status_call.specs.MayReturn.{MayReturn}
 use Rattle.git_explain.specs.declared.sight.LstatCall.{LstatCall}
 use Rattle.git_explain.specs.declared.sight.Reading.{Reading}
 use Rattle.git_explain.specs.declared.sight.Sight.{Sight}
 use Rattle.git_explain.specs.Sights.{content_of}
+
+-- A content that may be read, and a target that a link may have, whichever node was met at the path.
+abbrev pub opened_anyhow : {U : Type 0} → MayReturn U → List ℕ → MayOpen
+opened_anyhow may path r = (n : Metadata) → may.opened path n r
+
+abbrev pub linked_anyhow : {U : Type 0} → MayReturn U → List ℕ → Result (List ℕ) Fault → Type 0
+linked_anyhow may path r = (n : Metadata) → may.linked path n r
 
 -- Each call of `lstat` returned a result that it may return for its path.
 abbrev pub AreCallsAllowed : MayStat → List LstatCall → Type 0

@@ -23,7 +23,7 @@ use Rattle.status_index.specs.Mode.{is_submodule}
 use Rattle.status_index.specs.States.{index_of}
 use Rattle.status_index.specs.declared.fault.Fault.{Fault}
 use Rattle.status_index.specs.declared.state.State.{State}
-use Rattle.git_explain.specs.Allowed.{IsSightAllowed}
+use Rattle.git_explain.specs.Allowed.{IsSightAllowed, linked_anyhow, opened_anyhow}
 use Rattle.git_explain.specs.Sights.{linked, result_at, opened, reported}
 use Rattle.git_explain.specs.declared.explained.Explained.{Explained}
 use Rattle.git_explain.specs.declared.sight.Sight.{Sight}
@@ -85,6 +85,6 @@ pub record AreExplained {T U : Type 0} (a : Asking T U) (included : List ℕ →
   pub converting : Converting a index
   pub found : List Explained
   pub all : map entry_of found ≡ first_entries included [] (index_of index)
-  pub each : let may = a.may_return in All (IsExplained may.stat may.opened may.linked may.reported (settings a.settings.options index) converting.filter index) found
+  pub each : let may = a.may_return in All (IsExplained may.stat (opened_anyhow may) (linked_anyhow may) may.reported (settings a.settings.options index) converting.filter index) found
   pub lines : differs ≡ list_any has_line found
   pub faults : failed ≡ list_any (λ x. is_err x.answer) found

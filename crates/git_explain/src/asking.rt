@@ -11,7 +11,7 @@ ghost use Rattle.git_explain.specs.Allowed.{AreCallsAllowed, IsFileAllowed, IsLi
 use crate::sight::{LstatCall, Reading, Sight};
 use bstr::BStr;
 use status_base::worktree::{
-    ByteText, Fault, GuardedWorktree, Metadata, NodeKind, SubmoduleFault, SubmoduleStatus,
+    ByteText, Fault, Guard, GuardedWorktree, Metadata, NodeKind, SubmoduleFault, SubmoduleStatus,
     Worktree, read_all,
 };
 use status_index::Entry;
@@ -79,11 +79,12 @@ pub(crate) fn read_file<W: Worktree>(
     alloc: Global,
     worktree: GuardedWorktree<'_, W>,
     path: BStr<'_>,
+    node: &Metadata,
 ) -> Result<Result<Reading, Fault>, AllocError>
-    requires { IsLookedAt (W.may_stat worktree.worktree.now) worktree.fscache (bstr_bytes path) File }
+    requires { IsLookedAt (W.may_stat worktree.worktree.now) worktree.fscache (bstr_bytes path) node.now File }
     ensures { IfOk result (IsFileAllowed (W.may_open worktree.entry.worktree.now (bstr_bytes path.entry))) }
 {
-    let mut file = match worktree.open(path) {
+    let mut file = match worktree.open(path, node) {
         Ok(file) => file,
         Err(Fault::Memory) => return Err(AllocError),
         Err(fault) => return Ok(Err(fault)),
@@ -107,12 +108,13 @@ pub(crate) fn read_link<W: Worktree>(
     alloc: Global,
     worktree: GuardedWorktree<'_, W>,
     path: BStr<'_>,
+    node: &Metadata,
 ) -> Result<Result<Vec<u8>, Fault>, AllocError>
-    requires { IsLookedAt (W.may_stat worktree.worktree.now) worktree.fscache (bstr_bytes path) Link }
+    requires { IsLookedAt (W.may_stat worktree.worktree.now) worktree.fscache (bstr_bytes path) node.now Link }
     ensures { IfOk result (IsLinkAllowed (W.may_link worktree.entry.worktree.now (bstr_bytes path.entry))) }
 {
     let mut target = Vec::new(alloc);
-    match worktree.read_link(path, &mut target) {
+    match worktree.read_link(path, node, &mut target) {
         Ok(()) => Ok(Ok(target)),
         Err(Fault::Memory) => Err(AllocError),
         Err(fault) => Ok(Err(fault)),

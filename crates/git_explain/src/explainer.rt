@@ -132,12 +132,12 @@ impl<'a, 'b, 'files, 'index, W: Worktree, S: SubmoduleStatus> Explainer<
         };
         match node.kind {
             NodeKind::Link => {
-                let target = read_link(self.alloc, self.worktree, path)?;
+                let target = read_link(self.alloc, self.worktree, path, &node)?;
                 sight.link = Some(target);
                 Ok(sight)
             }
             NodeKind::File => {
-                let file = read_file(self.alloc, self.worktree, path)?;
+                let file = read_file(self.alloc, self.worktree, path, &node)?;
                 sight.file = Some(file);
                 Ok(sight)
             }

@@ -16,8 +16,8 @@ use gix_status::index_as_worktree::{
     index_as_worktree_without_threads,
 };
 use gix_status::worktree::{
-    AllPaths, Find, GuardedWorktree, Lister, MemoryObjects, NoFilter, NoLister, NoSubmodules, Pathspec,
-    SubmoduleStatus, ToGit, Worktree,
+    AllPaths, Find, GuardedWorktree, Lister, MemoryObjects, NoFilter, NoLister, NoSubmodules,
+    Pathspec, SubmoduleStatus, ToGit, Worktree,
 };
 use std::alloc::Global;
 use std::sync::Wait;

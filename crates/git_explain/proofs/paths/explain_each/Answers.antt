@@ -2,7 +2,7 @@ use Rattle.std.proofs.Common.{List, ap, map, refl, ◌∙◌}
 use Rattle.git_attributes.specs.Files.{attributes_of}
 use Rattle.git_attributes.specs.Views.{file_view}
 use Rattle.git_attributes.specs.declared.files.AttributeFile.{AttributeFile}
-use Rattle.git_explain.proofs.Adding.{all_explained}
+use Rattle.git_explain.proofs.Adding.{adds_anyhow, all_explained}
 use Rattle.git_explain.proofs.paths.explain_each.Goals as goal
 
 pub returns : goal.returns
@@ -16,4 +16,4 @@ returns g c =
       auto = refl;
       entries = refl;
       kind = refl;
-    }) _ _ refl refl (rw c.new.ensures at c.in_ok-add_entries.ensures)
+    }) _ _ refl refl (adds_anyhow _ _ _ _ _ _ _ _ _ _ (rw c.new.ensures at c.in_ok-add_entries.ensures))
