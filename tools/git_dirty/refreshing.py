@@ -1,8 +1,8 @@
-"""What the tests of `git dirty --refresh` share: repositories with old stats, and comparisons with what git leaves and shows.
+"""Shared by the tests of `git dirty --refresh`: repositories with old stats, and comparisons with what git leaves and shows.
 
-What a refresh leaves is compared with what `git update-index --refresh` leaves of the same index file. No refresh may hide a
-change from git. So tests that it doesn't show first that git would be misled by an index with the stats of all files, or with
-a later time.
+The index file after a refresh is compared with the one that `git update-index --refresh` leaves of the same file. No refresh
+may hide a change from git. So tests that it doesn't show first that git would be misled by an index with the stats of all
+files, or with a later time.
 """
 
 import array

@@ -24,7 +24,7 @@ fn a_change_and_a_removal(rt: HostRuntime) -> Result<(), Fail> {
     let file = Node::file(Vec::from_slice(alloc, b"bar")?, time);
     let mut worktree = MemoryWorktree::new(alloc);
     worktree.put(BStr::from("a"), file)?;
-    // What comes back: a record for each entry that differs, in content or stat, in the order of the index, and counts.
+    // The results: a record for each entry that differs, in content or stat, in the order of the index, and counts.
     let mut collector = Recorder::new(alloc);
     let outcome = index_as_worktree_with_defaults(
         &rt,
