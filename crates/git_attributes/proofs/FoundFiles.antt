@@ -1,11 +1,11 @@
 -- The files that a search adds, folder by folder.
-use Rattle.std.proofs.Common.{◌≡◌, ◌≢◌, ℕ, ◌<◌, ◌≤◌, ◌-◌, Bool, true, false, List, [], ◌∷◌, ◌++◌, length, take, drop, slice_index_or, map, Err, nat_lt, refl, sym, ◌∙◌, ap, subst, arith, append_assoc, if◌then◌else◌}
+use Rattle.std.proofs.Common.{◌≡◌, ◌≢◌, ℕ, zero, suc, ◌+◌, ◌<◌, ◌≤◌, ◌-◌, Bool, true, false, List, [], ◌∷◌, ◌++◌, length, take, drop, slice_get, slice_index_or, map, Some, Err, nat_lt, refl, sym, ◌∙◌, ap, subst, arith, append_assoc, if◌then◌else◌}
 use Rattle.std.specs.List.{All}
 use Rattle.std.proofs.lemmas.Grind.{flat_map-append}
 use Rattle.std.proofs.lemmas.List.{append-nil, map-append, take_all}
 use Rattle.std.proofs.lemmas.List.Elements.{All-append, All-cons, All-head, All-nil, All-tail}
 use Rattle.std.proofs.lemmas.Bool.Decides.{nat_tests}
-use Rattle.status_index.specs.Entries.{index_entries, path_in}
+use Rattle.status_index.specs.Entries.{IndexEntry, index_entries, path_in}
 use Rattle.status_index.specs.declared.entry.Entry.{Entry}
 use Rattle.status_index.specs.declared.entry.PathStorage.{PathStorage}
 use Rattle.status_index.specs.declared.fault.Fault.TheVariants as faults
@@ -14,8 +14,9 @@ use Rattle.status_base.specs.Openings.{MayOpen}
 use Rattle.status_base.specs.Paths.{is_slash}
 use Rattle.status_base.specs.Sights.{MayStat}
 use Rattle.git_attributes.specs.Files.{File}
-use Rattle.git_attributes.specs.WorktreeFiles.{FolderView, nothing, out_of_memory, path_limit, folders_after, folders_from, new_folders, up_to_long, file_path, checked_search, node_search, search_by, file_of, files_by, IsAllowed, AreFilesSeen}
+use Rattle.git_attributes.specs.WorktreeFiles.{FolderView, nothing, out_of_memory, path_limit, folders_after, folders_from, last_path, new_folders, up_to_long, file_path, checked_search, node_search, search_by, file_of, files_by, IsAllowed, AreFilesSeen}
 use Rattle.git_attributes.specs.FolderSteps.{IsFolderAdded, AreAdded}
+use Rattle.git_attributes.specs.SharedLaws.{seen_both}
 use Rattle.git_attributes.proofs.FolderBarriers.{name, refused_below, refused_nothing}
 
 -- A folder is below another one, whose path is a front of its own.
@@ -53,6 +54,20 @@ folders_of_first backing held before path (e ∷ es) d some is same =
     let here : path ≡ path_in backing e = is ∙ ap (λ (v : PathStorage). path_in v e) same in
     subst P (sym here) (ap (λ (v : List Entry). up_to_long (new_folders before (path_in backing e)) ++ folders_after (path_in backing e) (index_entries backing v)) (sym all))
 
+-- the path of the last entry
+last_path_at : (backing : PathStorage) (before : List ℕ) (es : List Entry) (n : ℕ) (e : Entry) → length es ≡ n + 1 → slice_get es n ≡ Some e → last_path before (index_entries backing es) ≡ path_in backing e
+last_path_at backing before [] n e some got = absurd (omega (arith, some))
+last_path_at backing before (x ∷ []) zero e some got = let same : x ≡ e = cc in ap (path_in backing) same
+last_path_at backing before (x ∷ []) (suc n) e some got = absurd (omega (arith, some))
+last_path_at backing before (x ∷ y ∷ es) zero e some got = absurd (omega (arith, some))
+last_path_at backing before (x ∷ y ∷ es) (suc n) e some got = last_path_at backing (path_in backing x) (y ∷ es) n e (omega (arith, some)) got
+
+pub last_path_got : (backing held : PathStorage) (before path : List ℕ) (es : List Entry) (e : Entry) → held ≡ backing → path ≡ path_in held e → slice_get es (length es - 1) ≡ Some e → path ≡ last_path before (index_entries backing es)
+last_path_got backing held before path [] e same is got = absurd (cc)
+last_path_got backing held before path (x ∷ es) e same is got =
+    let n : length (x ∷ es) - 1 ≡ length es = omega arith in
+    is ∙ ap (λ (v : PathStorage). path_in v e) same ∙ sym (last_path_at backing before (x ∷ es) (length es) e (omega arith) (subst (λ (m : ℕ). slice_get (x ∷ es) m ≡ Some e) n got))
+
 module _ (may_stat : MayStat) (may_open : List ℕ → MayOpen) where
   added_none : (old : List File) → AreAdded may_stat may_open [] old old
   added_none old = record {
@@ -76,19 +91,11 @@ module _ (may_stat : MayStat) (may_open : List ℕ → MayOpen) where
       }
 
   pub added_both : (fs gs : List (List ℕ)) (old mid new : List File) → AreAdded may_stat may_open fs old mid → AreAdded may_stat may_open gs mid new → AreAdded may_stat may_open (fs ++ gs) old new
-  added_both fs gs old mid new one other =
-      let folder : FolderView → List ℕ = λ v. v.folder in
-      let files : FolderView → List File = λ v. file_of v.folder (search_by v) in
-      record {
-        files = one.files ++ other.files;
-        seen = record {
-          views = one.seen.views ++ other.seen.views;
-          each = map-append folder one.seen.views other.seen.views ∙ ap (λ (v : List (List ℕ)). v ++ map folder other.seen.views) one.seen.each ∙ ap (λ (v : List (List ℕ)). fs ++ v) other.seen.each;
-          allowed = All-append (IsAllowed may_stat may_open) one.seen.views other.seen.views one.seen.allowed other.seen.allowed;
-          found = ap (λ (v : List File). v ++ other.files) one.seen.found ∙ ap (λ (v : List File). files_by one.seen.views ++ v) other.seen.found ∙ sym (flat_map-append files one.seen.views other.seen.views);
-        };
-        added = other.added ∙ ap (λ (v : List File). v ++ other.files) one.added ∙ append_assoc old one.files other.files;
-      }
+  added_both fs gs old mid new one other = record {
+    files = one.files ++ other.files;
+    seen = seen_both may_stat may_open fs gs one.files other.files one.seen other.seen;
+    added = other.added ∙ ap (λ (v : List File). v ++ other.files) one.added ∙ append_assoc old one.files other.files;
+  }
 
   -- nothing is added in a folder below one whose file is refused
   barred_one : ((path : List ℕ) → may_open path (Err faults.Memory)) → (view : FolderView) (before folder : List ℕ) → view.folder ≡ before ++ 47 ∷ [] → IsAllowed may_stat may_open view

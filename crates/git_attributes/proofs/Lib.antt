@@ -12,3 +12,4 @@ mod Leaving
 mod Lines
 mod Tables
 pub mod Sent
+mod SharedSearch

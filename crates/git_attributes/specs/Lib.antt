@@ -8,6 +8,7 @@ pub mod Normalization
 pub mod Patterns
 pub mod Quoted
 pub mod Sets
+pub mod SharedLaws
 pub mod States
 pub mod Tables
 pub mod Text

@@ -40,6 +40,11 @@ abbrev pub folders_after : List ℕ → List IndexEntry → List (List ℕ)
 folders_after before [] = []
 folders_after before (e ∷ es) = up_to_long (new_folders before e.path) ++ folders_after e.path es
 
+-- The path of the last of these entries, or the path before them if there is none.
+abbrev pub last_path : List ℕ → List IndexEntry → List ℕ
+last_path before [] = before
+last_path before (e ∷ es) = last_path e.path es
+
 -- The folders that are searched for an index: the worktree's top, and each folder on the way to an entry's path, in index
 -- order. The entries of an index are in the order of their paths, so each comes once.
 abbrev pub folders_of : List IndexEntry → List (List ℕ)
@@ -136,6 +141,12 @@ pub record AreFilesSeen (may_stat : MayStat) (may_open : List ℕ → MayOpen) (
   pub each : map (λ view. view.folder) views ≡ folders
   pub allowed : All (IsAllowed may_stat may_open) views
   pub found : files ≡ files_by views
+
+-- These files count, if some count with others that are found within the worktree.
+pub record AreFilesWith (within : List File → Type 0) (among : List File → List File → Type 0) (files : List File) : Type 0 where
+  pub inner : List File
+  pub found : within inner
+  pub others : among inner files
 
 -- ---- a modelled worktree
 

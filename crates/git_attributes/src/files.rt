@@ -1,12 +1,10 @@
 //! The attribute files of a worktree.
 
-ghost use Rattle.std.specs.Prelude.{◌≡◌, [], IfOk, List, map};
-ghost use Rattle.status_index.specs.declared.state.State.{State as IndexState};
+ghost use Rattle.std.specs.Prelude.{◌≡◌, ◌++◌, IfOk, List, map};
 ghost use Rattle.git_attributes.specs.Files.{File, attributes_of};
 ghost use Rattle.git_attributes.specs.Views.{attributes_view, file_view};
 
 use crate::attributes::{Attributes, BUILT_IN, Source};
-use status_index::State;
 use std::alloc::{AllocError, Global};
 
 /// An attribute file that was read.
@@ -21,29 +19,35 @@ pub struct AttributeFile {
     pub bytes: Vec<u8>,
 }
 
-/// Finds the attribute files of a worktree.
+/// The attribute files that count for a worktree besides those within it.
 pub trait AttributeFiles: Drop {
-    /// Which files may be found for an index.
-    ghost are_files: { Self → IndexState → List File → Type 0 };
+    /// Which files count, the weakest one first, if these were found within the worktree.
+    ghost are_files: { Self → List File → List File → Type 0 };
 
-    /// Returns the attribute files that count for the paths of an index, the weakest one first.
+    /// Puts the files that were found within the worktree among the others. Returns all of them, the weakest one first.
     ///
     /// # Errors
     /// Out of memory.
-    fn find(&self, alloc: Global, index: &State) -> Result<Vec<AttributeFile>, AllocError>
-        ensures { IfOk result (λ files. are_files self.now index.now (map file_view files.items)) };
+    fn with_others(
+        &self,
+        alloc: Global,
+        within: Vec<AttributeFile>,
+    ) -> Result<Vec<AttributeFile>, AllocError>
+        ensures { IfOk result (λ files. are_files self.now (map file_view within.items) (map file_view files.items)) };
 }
 
-/// A worktree without attribute files.
-#[derive(Clone, Copy, Debug, Default)]
-pub struct NoAttributeFiles;
-
-impl AttributeFiles for NoAttributeFiles {
-    ghost are_files = { λ _ _ files. files ≡ [] };
-
-    fn find(&self, alloc: Global, _index: &State) -> Result<Vec<AttributeFile>, AllocError> {
-        Ok(Vec::new(alloc))
-    }
+/// Returns some files and others after them.
+///
+/// # Errors
+/// Out of memory.
+pub(crate) fn append(
+    mut files: Vec<AttributeFile>,
+    mut others: Vec<AttributeFile>,
+) -> Result<Vec<AttributeFile>, AllocError>
+    ensures { IfOk result (λ all. all.items ≡ files.items ++ others.items) }
+{
+    files.append(&mut others)?;
+    Ok(files)
 }
 
 /// Returns what attribute files say, the weakest one first. The macro `binary` is weaker than all of them.

@@ -16,15 +16,17 @@ pub mod line_ends;
 pub mod normalization;
 mod pattern;
 mod set;
+mod shared_search;
 mod table;
 mod words;
 pub mod worktree_files;
 
 pub use assignment::{Assignment, Value};
 pub use attributes::{Attributes, Source};
-pub use files::{AttributeFile, AttributeFiles, NoAttributeFiles, attributes_of};
+pub use files::{AttributeFile, AttributeFiles, attributes_of};
 pub use line_ends::{LineEnds, ids_decide_as_git_does};
 pub use normalization::{
     Normalization, is_binary, is_unconverted, normalization_of, push_normalized,
 };
-pub use worktree_files::{ATTRIBUTES_LIMIT, WorktreeAttributeFiles};
+pub use shared_search::find_attribute_files;
+pub use worktree_files::{ATTRIBUTES_LIMIT, FolderSearch};

@@ -1,25 +1,26 @@
 //! The attribute files within a worktree.
 
-ghost use Rattle.std.specs.Prelude.{◌≡◌, ◌≤◌, [], ◌∷◌, nat_eq, true, IfOk, OnOk, None, length, take, drop, map, option_map};
+ghost use Rattle.std.specs.Prelude.{false, ◌≡◌, ◌≤◌, [], ◌∷◌, nat_eq, true, IfOk, OnOk, None, length, take, drop, map, option_map};
 ghost use Rattle.std.specs.List.{starts_with};
 ghost use Rattle.bstr.specs.BStr.{bstr_bytes};
-ghost use Rattle.status_index.specs.States.{index_of};
+ghost use Rattle.status_index.specs.Entries.{index_entries};
+ghost use Rattle.status_index.specs.States.{backing_of, index_of};
 ghost use Rattle.status_index.specs.declared.stat.NodeKind.TheVariants.{File};
 ghost use Rattle.status_base.specs.CheckAnswers.{IsCheckError};
 ghost use Rattle.status_base.specs.Common.{IsCommon};
 ghost use Rattle.status_base.specs.LinkCheck.{LinkCheck};
-ghost use Rattle.status_base.specs.Looked.{IsLookedAt};
+ghost use Rattle.status_base.specs.Looked.{IsLookedAt, guarded};
 ghost use Rattle.status_base.specs.Sights.{IsOpen};
 ghost use Rattle.git_attributes.specs.Views.{file_view};
-ghost use Rattle.git_attributes.specs.WorktreeFiles.{AreFilesSeen, at_fault, file_of, file_path, folders_from, folders_of, found, new_folders, nothing, up_to_long};
+ghost use Rattle.git_attributes.specs.WorktreeFiles.{AreFilesSeen, at_fault, file_of, file_path, folders_after, folders_from, folders_of, found, new_folders, nothing, up_to_long};
 ghost use Rattle.git_attributes.specs.FolderSteps.{AreAdded, IsFolderAdded, IsIn, IsNextFolder, IsOpenSeen, IsPathSeen, IsReadSeen, IsRefusalOf};
 
-use crate::files::{AttributeFile, AttributeFiles};
+use crate::files::{AttributeFile, append};
 use crate::words::first_at;
 use bstr::{BStr, BString};
 use status_base::stack::{StackError, SymlinkCheck};
 use status_base::worktree::{Fault, Guard, GuardedWorktree, Metadata, NodeKind, Worktree};
-use status_index::{State, read_all};
+use status_index::{Entry, State, read_all};
 use std::alloc::{AllocError, Global};
 use std::sync::atomic::{AtomicBool, Ordering};
 
@@ -32,34 +33,6 @@ const PATH_LIMIT: usize = 4096;
 /// As git does, an attribute file of so many bytes or more is left out.
 pub const ATTRIBUTES_LIMIT: usize = 100 << 20;
 
-/// Finds the attribute files within a worktree: of its top, and of each folder on the way to the path of an entry.
-///
-/// As in git, a file that can't be read counts as none, and so does a link. A folder isn't searched if its path isn't normal
-/// or leads through a link, so no file outside is opened. Unlike git, a file that is only in the index isn't read: then
-/// `unread` becomes true, if its folder is in the worktree.
-#[derive(Drop)]
-pub struct WorktreeAttributeFiles<'a, W> {
-    /// The worktree.
-    pub worktree: &'a W,
-    /// Becomes true if git would read a file that is only in the index.
-    pub unread: &'a AtomicBool,
-}
-
-impl<W: Worktree> AttributeFiles for WorktreeAttributeFiles<'_, W> {
-    ghost are_files = { λ finder index files. AreFilesSeen (W.may_stat finder.worktree.now) (W.may_open finder.worktree.now) (folders_of (index_of index)) files };
-
-    fn find(&self, alloc: Global, index: &State) -> Result<Vec<AttributeFile>, AllocError> {
-        let search = FolderSearch {
-            alloc,
-            worktree: GuardedWorktree::new(self.worktree, false),
-            index,
-            has_named: has_named(index),
-            unread: self.unread,
-        };
-        search.files()
-    }
-}
-
 /// The node at the path of an attribute file.
 #[derive(Drop)]
 enum Found {
@@ -71,28 +44,82 @@ enum Found {
     NoFolder,
 }
 
-/// A search of a worktree's folders for the attribute files of an index.
+/// A search for the attribute files within a worktree: of its top, and of each folder on the way to the path of an entry.
+///
+/// As in git, a file that can't be read counts as none, and so does a link. A folder isn't searched if its path isn't normal
+/// or leads through a link, so no file outside is opened. Unlike git, a file that is only in the index isn't read: then the
+/// search notes that, if its folder is in the worktree.
 #[derive(Drop)]
-struct FolderSearch<'s, W> {
+pub struct FolderSearch<'s, W> {
     alloc: Global,
     worktree: GuardedWorktree<'s, W>,
     index: &'s State,
-    /// Whether an entry of the index is an attribute file.
     has_named: bool,
     unread: &'s AtomicBool,
 }
 
-impl<W: Worktree> FolderSearch<'_, W> {
-    /// Returns the files of the worktree's top and of the folders on the way to the entries' paths.
-    fn files(&self) -> Result<Vec<AttributeFile>, AllocError>
-        ensures { IfOk result (λ files. AreFilesSeen (W.may_stat self.now.worktree.worktree.now) (W.may_open self.now.worktree.worktree.now) (folders_of (index_of self.now.index.now)) (map file_view files.items)) }
+impl<'s, W: Worktree> FolderSearch<'s, W> {
+    /// Makes a search for an index. `unread` becomes true if git would read a file that is only in the index.
+    pub fn new(
+        alloc: Global,
+        worktree: &'s W,
+        index: &'s State,
+        unread: &'s AtomicBool,
+    ) -> FolderSearch<'s, W>
+        ensures worktree { result.worktree ≡ guarded worktree.entry false }
+        ensures index { result.index.now ≡ index.entry.now }
+    {
+        FolderSearch {
+            alloc,
+            worktree: GuardedWorktree::new(worktree, false),
+            index,
+            has_named: has_named(index),
+            unread,
+        }
+    }
+
+    /// Returns the index.
+    pub(crate) fn index(&self) -> &State
+        ensures { result.now ≡ self.now.index.now }
+    {
+        self.index
+    }
+
+    /// Returns the files of the worktree's top and of the folders on the way to the paths of the index, in their order.
+    ///
+    /// # Errors
+    /// Out of memory.
+    pub fn find(&self) -> Result<Vec<AttributeFile>, AllocError>
+        ensures { IfOk result (λ files. AreFilesSeen (W.may_stat self.now.worktree.worktree.now) (W.may_open self.now.worktree.worktree.now)
+            (folders_of (index_of self.now.index.now)) (map file_view files.items)) }
+    {
+        append(self.top()?, self.files(b"", self.index.entries())?)
+    }
+
+    /// Returns the file of the worktree's top, if there is one that can be read.
+    pub(crate) fn top(&self) -> Result<Vec<AttributeFile>, AllocError>
+        ensures { IfOk result (λ files. AreFilesSeen (W.may_stat self.now.worktree.worktree.now) (W.may_open self.now.worktree.worktree.now) ([] ∷ []) (map file_view files.items)) }
     {
         let mut check = SymlinkCheck::new(self.alloc, BString::new(Vec::new(self.alloc)));
         let mut files = Vec::new(self.alloc);
         self.add_file(b"", &mut check, &mut files)?;
-        let mut before: &[u8] = b"";
-        let mut folder: &[u8] = b"";
-        let mut rest = self.index.entries();
+        Ok(files)
+    }
+
+    /// Returns the files of the folders on the way to the paths of these entries that aren't on the way to the path before them.
+    pub(crate) fn files(
+        &self,
+        before: &[u8],
+        part: &[Entry],
+    ) -> Result<Vec<AttributeFile>, AllocError>
+        ensures { IfOk result (λ files. AreFilesSeen (W.may_stat self.now.worktree.worktree.now) (W.may_open self.now.worktree.worktree.now)
+            (folders_after before.now (index_entries (backing_of self.now.index.now) part.now)) (map file_view files.items)) }
+    {
+        let mut check = SymlinkCheck::new(self.alloc, BString::new(Vec::new(self.alloc)));
+        let mut files = Vec::new(self.alloc);
+        let mut before = before;
+        let mut folder = folder_of(before);
+        let mut rest = part;
         'entries: while let [entry, after @ ..] = rest {
             let path = entry.path_in(self.index.path_backing()).as_bytes();
             if !is_in(folder, path) {
@@ -234,7 +261,7 @@ impl<W: Worktree> FolderSearch<'_, W> {
     }
 }
 
-/// Returns whether an entry of an index is an attribute file.
+/// Returns whether an entry is an attribute file.
 fn has_named(index: &State) -> bool {
     let backing = index.path_backing();
     index

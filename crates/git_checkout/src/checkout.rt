@@ -110,7 +110,7 @@ where
         illformed,
     } = Exceptions::of(alloc, &read.file.state, &worktree, &selected, &ignored)?;
     let unread = AtomicBool::new(false);
-    let attributes = GitAttributeFiles::new(rt, &worktree, &repository, &unread)?;
+    let attributes = GitAttributeFiles::new(rt, &repository)?;
     let asked = Asked {
         settings,
         worktree: &worktree,
@@ -120,6 +120,7 @@ where
             left_out: &left_out,
         },
         attributes,
+        unread: &unread,
     };
     let begun = if request.refresh {
         Some(time_of_lock(rt, repository.index.as_str()))
@@ -270,6 +271,7 @@ where
         submodules: asked.submodules,
         paths: asked.paths,
         attributes: asked.attributes,
+        unread: asked.unread,
     };
     if request.refresh && !request.explain {
         return if request.quiet {

@@ -12,7 +12,7 @@ use crate::explainer::Explainer;
 use crate::json::{push_json, push_other_json};
 use crate::text::{push_other, push_text};
 use bstr::BStr;
-use git_attributes::{AttributeFiles, LineEnds, attributes_of};
+use git_attributes::{AttributeFiles, FolderSearch, LineEnds, attributes_of};
 use git_status::{Asked, Question};
 use status_base::worktree::{GuardedWorktree, Pathspec, SubmoduleStatus, Worktree};
 use status_index::{Entry, State};
@@ -55,7 +55,8 @@ pub(crate) fn explain_each<'a, W: Worktree, S: SubmoduleStatus, P: Pathspec, A: 
 ) -> Result<Explanations, AllocError>
     ensures { IfOk result (λ found. AreExplained (⟦<Asked<'a, W, S, P, A> as Question>⟧.asking asked.entry) (P.included asked.entry.paths) index.now found.differs found.failed) }
 {
-    let files = asked.attributes.find(alloc, index)?;
+    let within = FolderSearch::new(alloc, asked.worktree, index, asked.unread).find()?;
+    let files = asked.attributes.with_others(alloc, within)?;
     let attributes = attributes_of(alloc, &files)?;
     let Asked {
         settings,

@@ -14,27 +14,23 @@ outside_more old new file is here all =
     let P : List File → Type 0 = λ v. All IsOutside v in
     subst P (sym (ap (map file_view) is ∙ map_push file_view old file)) (All-push IsOutside (map file_view old) (file_view file) all here)
 
-module _ (within : List File → Type 0) (outer inner both : List AttributeFile) where
+module _ (outer inner both : List AttributeFile) where
   -- without a file of the repository's own
-  pub files_without_own : both ≡ outer ++ inner → All IsOutside (map file_view outer) → within (map file_view inner) → AreRepositoryFiles within (map file_view both)
-  files_without_own is outside inside = record {
+  pub files_without_own : both ≡ outer ++ inner → All IsOutside (map file_view outer) → AreRepositoryFiles (map file_view inner) (map file_view both)
+  files_without_own is outside = record {
     outer = map file_view outer;
-    inner = map file_view inner;
     own = [];
-    inside = inside;
     outside = (let P : List File → Type 0 = λ v. All IsOutside v in subst P (sym (append-nil (map file_view outer))) outside);
     one = omega arith;
     order = ap (map file_view) is ∙ map-append file_view outer inner ∙ ap (λ (v : List File). map file_view outer ++ v) (sym (append-nil (map file_view inner)));
   }
 
   -- with one
-  pub files_with_own : (new : List AttributeFile) (own : AttributeFile) → both ≡ outer ++ inner → new ≡ both ++ own ∷ [] → IsOutside (file_view own) → All IsOutside (map file_view outer) → within (map file_view inner)
-      → AreRepositoryFiles within (map file_view new)
-  files_with_own new own is more here outside inside = record {
+  pub files_with_own : (new : List AttributeFile) (own : AttributeFile) → both ≡ outer ++ inner → new ≡ both ++ own ∷ [] → IsOutside (file_view own) → All IsOutside (map file_view outer)
+      → AreRepositoryFiles (map file_view inner) (map file_view new)
+  files_with_own new own is more here outside = record {
     outer = map file_view outer;
-    inner = map file_view inner;
     own = file_view own ∷ [];
-    inside = inside;
     outside = All-push IsOutside (map file_view outer) (file_view own) outside here;
     one = omega arith;
     order = ap (map file_view) more ∙ map_push file_view both own

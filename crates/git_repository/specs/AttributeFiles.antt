@@ -9,11 +9,9 @@ pub record IsOutside (file : File) : Type 0 where
 
 -- First come files of the system and of the user, then those within the worktree, and last the repository's own, if it has one.
 -- So a file within the worktree is stronger than those of the system and of the user.
-pub record AreRepositoryFiles (within : List File → Type 0) (files : List File) : Type 0 where
+pub record AreRepositoryFiles (inner files : List File) : Type 0 where
   pub outer : List File
-  pub inner : List File
   pub own : List File
-  pub inside : within inner
   pub outside : All IsOutside (outer ++ own)
   pub one : length own ≤ 1
   pub order : files ≡ outer ++ (inner ++ own)

@@ -9,54 +9,37 @@ use crate::files::joined;
 use crate::location::Repository;
 use crate::outer_attributes::outer_files;
 use crate::regular::{Unread, read_regular};
-use git_attributes::{ATTRIBUTES_LIMIT, AttributeFile, AttributeFiles, WorktreeAttributeFiles};
-use status_base::worktree::Worktree;
-use status_index::State;
+use git_attributes::{ATTRIBUTES_LIMIT, AttributeFile, AttributeFiles};
 use std::alloc::{AllocError, Global};
 use std::io;
 use std::rt::{Env, Files};
-use std::sync::atomic::AtomicBool;
 
-/// Finds the attribute files of a repository: of the system, the user, each folder of the worktree that has an entry, and
-/// the repository's own `info/attributes`.
-///
-/// As in git, a file that can't be read counts as none. Within the worktree they are found as `WorktreeAttributeFiles` states.
-/// Unlike git, a file that is only in the index isn't read: then `unread` becomes true, if its folder is in the worktree.
+/// The attribute files of a repository besides those within its worktree: of the system, the user, and the repository's own
+/// `info/attributes`. As in git, a file that can't be read counts as none.
 #[derive(Drop)]
-pub struct GitAttributeFiles<'a, R, W> {
-    worktree: &'a W,
+pub struct GitAttributeFiles<'a, R> {
     outer: Vec<String>,
     own: String,
-    unread: &'a AtomicBool,
     rt: &'a R,
 }
 
-impl<'a, R: Files + Env + AllocGlobal, W: Worktree> GitAttributeFiles<'a, R, W> {
-    /// Returns the attribute files of a repository with this worktree. `unread` becomes true if git would read one in the
-    /// index.
+impl<'a, R: Files + Env + AllocGlobal> GitAttributeFiles<'a, R> {
+    /// Returns the attribute files of a repository.
     ///
     /// # Errors
     /// `core.attributesFile` has no value, or is in a home folder that isn't known; a variable of the environment or a path
     /// in the configuration isn't UTF-8; or out of memory.
     pub fn new(
         rt: &'a R,
-        worktree: &'a W,
         repository: &Repository,
-        unread: &'a AtomicBool,
-    ) -> Result<GitAttributeFiles<'a, R, W>, RepositoryError> {
+    ) -> Result<GitAttributeFiles<'a, R>, RepositoryError> {
         let outer = outer_files(rt, repository)?;
         let own = joined(
             rt.alloc(),
             repository.common_dir.as_str(),
             "info/attributes",
         )?;
-        Ok(GitAttributeFiles {
-            worktree,
-            outer,
-            own,
-            unread,
-            rt,
-        })
+        Ok(GitAttributeFiles { outer, own, rt })
     }
 }
 
@@ -81,12 +64,13 @@ fn file_outside<R: Files + AllocGlobal>(
 /// Returns the files at these paths that can be read.
 #[tactic(auto, using(crate::proofs::Outside::outside_more))]
 fn files_outside<R: Files + AllocGlobal>(
+    alloc: Global,
     rt: &R,
     paths: &[String],
 ) -> Result<Vec<AttributeFile>, AllocError>
     ensures { IfOk result (λ files. All IsOutside (map file_view files.items)) }
 {
-    let mut files = Vec::new(rt.alloc());
+    let mut files = Vec::new(alloc);
     let mut rest = paths;
     'paths: while let [path, after @ ..] = rest {
         if let Some(file) = file_outside(rt, path.as_str())? {
@@ -97,20 +81,18 @@ fn files_outside<R: Files + AllocGlobal>(
     Ok(files)
 }
 
-impl<R: Files + AllocGlobal, W: Worktree> AttributeFiles for GitAttributeFiles<'_, R, W> {
-    ghost use Rattle.status_index.specs.States.{index_of};
-    ghost use Rattle.git_attributes.specs.WorktreeFiles.{AreFilesSeen, folders_of};
+impl<R: Files + AllocGlobal> AttributeFiles for GitAttributeFiles<'_, R> {
     ghost use Rattle.git_repository.specs.AttributeFiles.{AreRepositoryFiles};
 
-    ghost are_files = { λ finder index. AreRepositoryFiles (AreFilesSeen (W.may_stat finder.worktree.now) (W.may_open finder.worktree.now) (folders_of (index_of index))) };
+    ghost are_files = { λ _. AreRepositoryFiles };
 
-    fn find(&self, alloc: Global, index: &State) -> Result<Vec<AttributeFile>, AllocError> {
-        let mut files = files_outside(self.rt, &self.outer)?;
-        let within = WorktreeAttributeFiles {
-            worktree: self.worktree,
-            unread: self.unread,
-        };
-        let mut inner = within.find(alloc, index)?;
+    fn with_others(
+        &self,
+        alloc: Global,
+        within: Vec<AttributeFile>,
+    ) -> Result<Vec<AttributeFile>, AllocError> {
+        let mut files = files_outside(alloc, self.rt, &self.outer)?;
+        let mut inner = within;
         files.append(&mut inner)?;
         if let Some(own) = file_outside(self.rt, self.own.as_str())? {
             files.push(own)?;

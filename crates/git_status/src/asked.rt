@@ -1,6 +1,8 @@
 //! The question that the command is asked: an index file's kind and time, a worktree, and how they are compared.
 
 ghost use Rattle.std.specs.FinMap as ids;
+ghost use Rattle.status_index.specs.States.{index_of};
+ghost use Rattle.git_attributes.specs.WorktreeFiles.{AreFilesSeen, AreFilesWith, folders_of};
 ghost use Rattle.git_status.specs.Inputs.{asked_inputs};
 ghost use Rattle.git_status.specs.Runs.{Asking};
 
@@ -13,6 +15,7 @@ use status_base::worktree::{
 use status_call::index_as_worktree::Options;
 use status_call::index_as_worktree::inputs::Ask;
 use status_index::{HashKind, Moment};
+use std::sync::atomic::AtomicBool;
 
 /// How an index file is read, and how the differences are found and printed.
 #[derive(Debug, Drop)]
@@ -44,8 +47,10 @@ pub struct Asked<'a, W, S, P, A> {
     pub submodules: S,
     /// The paths that are compared.
     pub paths: P,
-    /// The attribute files, which say how git converts files.
+    /// The attribute files outside of the worktree, which say how git converts files too.
     pub attributes: A,
+    /// Becomes true if git would read an attribute file that is only in the index. It isn't read here.
+    pub unread: &'a AtomicBool,
 }
 
 /// The question of a status, of any types.
@@ -63,7 +68,7 @@ impl<'a, W: Worktree, S: SubmoduleStatus, P: Pathspec, A: AttributeFiles> Questi
 
     ghost asking = { λ asked. record {
       query = λ filter. ⟦<Compared<'a, 'a, 'a, 'a, W, S, P> as Ask>⟧.query (asked_inputs asked filter);
-      are_files = A.are_files asked.attributes;
+      are_files = λ index. AreFilesWith (AreFilesSeen (W.may_stat asked.worktree.now) (W.may_open asked.worktree.now) (folders_of (index_of index))) (A.are_files asked.attributes);
       may_return = record {
         stat = W.may_stat asked.worktree.now;
         opened = λ path _. W.may_open asked.worktree.now path;

@@ -35,7 +35,7 @@ use text_output::OutputError;
 /// may return, of `lstat`, of reading the file or the link, and of the submodule, by which it differs exactly if it is listed.
 pub fn run_dirty<
     'a,
-    R: AllocGlobal + Threads + Wait,
+    R: AllocGlobal + Sync + Threads + Wait,
     W: Worktree + Sync,
     S: SubmoduleStatus + Send,
     P: Pathspec + Send,
@@ -71,7 +71,7 @@ where
 /// Writes a line that says why the status of an index failed, with the path of an entry that can't be read, and returns the
 /// exit status of a failure, 2. Nothing is written if the reader of the output has ended, since whoever ended it knows.
 pub(crate) fn report_failure<
-    R: AllocGlobal + Threads + Wait,
+    R: AllocGlobal + Sync + Threads + Wait,
     W: Worktree + Sync,
     P: Pathspec,
     E: io::Write,
@@ -107,7 +107,7 @@ fn is_of_an_entry(failure: &Failure) -> bool {
 /// Memory runs out, or the failures of `Asked::print_index`.
 pub fn print_file<
     'a,
-    R: AllocGlobal + Threads + Wait,
+    R: AllocGlobal + Sync + Threads + Wait,
     W: Worktree + Sync,
     S: SubmoduleStatus + Send,
     P: Pathspec + Send,

@@ -1,6 +1,7 @@
 //! The status of an index: its lines are printed, and the changes that a refresh makes are returned if they are wanted.
 
-ghost use Rattle.std.specs.Prelude.{◌<◌};
+ghost use Rattle.std.specs.Prelude.{◌<◌, IfOk, map};
+ghost use Rattle.git_attributes.specs.Views.{file_view};
 ghost use Rattle.git_status.specs.Founds.{IsIndexFound};
 ghost use Rattle.git_status.specs.Reads.{IsRead};
 ghost use Rattle.git_status.specs.Refreshes.{IsRefresh};
@@ -13,10 +14,14 @@ use crate::notes::noted_paths;
 use crate::read::ReadIndex;
 use crate::refresh::Refreshed;
 use crate::status::{Computed, compute, filter_of};
-use git_attributes::{AttributeFiles, attributes_of};
+use git_attributes::{
+    AttributeFile, AttributeFiles, FolderSearch, attributes_of, find_attribute_files,
+};
 use git_index::IndexFileError;
 use status_base::worktree::{Pathspec, SubmoduleStatus, Worktree};
 use status_call::index_as_worktree::ApplyChange;
+use status_index::State;
+use std::alloc::AllocError;
 use std::io;
 use std::sync::Wait;
 use std::thread::Threads;
@@ -42,6 +47,23 @@ where
     W::File: Send,
     S::Output: Send,
 {
+    /// Returns the attribute files that count for an index. With a thread limit of 1 no thread is started.
+    ///
+    /// # Errors
+    /// Out of memory.
+    fn attribute_files<R: AllocGlobal + Sync + Threads + Wait>(
+        &self,
+        rt: &R,
+        index: &State,
+    ) -> Result<Vec<AttributeFile>, AllocError>
+        ensures { IfOk result (λ files. (⟦<Asked<'a, W, S, P, A> as Question>⟧.asking self.now).are_files index.now (map file_view files.items)) }
+    {
+        let search = FolderSearch::new(rt.alloc(), self.worktree, index, self.unread);
+        let shares = self.settings.options.thread_limit != Some(1);
+        let within = find_attribute_files(rt, &search, shares)?;
+        self.attributes.with_others(rt.alloc(), within)
+    }
+
     /// Prints the status of an index file that was read, with line ends converted by the attribute files. Returns what was
     /// found, with the changes that a refresh makes if they are wanted.
     ///
@@ -49,7 +71,7 @@ where
     /// Memory runs out before the status, or the file's checksum is wrong; or the status's error, after the lines before it
     /// were printed; or the output can't be written. If changes are wanted, memory may also run out after all lines were
     /// printed.
-    pub(crate) fn print_index<R: AllocGlobal + Threads + Wait, O: io::Write>(
+    pub(crate) fn print_index<R: AllocGlobal + Sync + Threads + Wait, O: io::Write>(
         self,
         rt: &R,
         read: &ReadIndex<'_>,
@@ -62,7 +84,7 @@ where
         let alloc = rt.alloc();
         let index = &read.file.state;
         let Settings { lines, notes, .. } = self.settings;
-        let files = self.attributes.find(alloc, index)?;
+        let files = self.attribute_files(rt, index)?;
         let attributes = attributes_of(alloc, &files)?;
         let filter = filter_of(&attributes, index, &self.settings);
         let attributes = filter.attributes;
@@ -94,7 +116,7 @@ where
     /// # Errors
     /// Those of `print_index`, or out of memory after all lines were printed.
     #[tactic(auto, unfolding(crate::specs::Refreshes::IsRefresh))]
-    pub(crate) fn refresh_file<'b, R: AllocGlobal + Threads + Wait, O: io::Write>(
+    pub(crate) fn refresh_file<'b, R: AllocGlobal + Sync + Threads + Wait, O: io::Write>(
         self,
         rt: &R,
         read: &mut ReadIndex<'b>,

@@ -41,7 +41,7 @@ pub struct Refreshed<'b> {
 pub fn run_refresh<
     'a,
     'b,
-    R: AllocGlobal + Threads + Wait,
+    R: AllocGlobal + Sync + Threads + Wait,
     W: Worktree + Sync,
     S: SubmoduleStatus + Send,
     P: Pathspec + Send,
