@@ -16,9 +16,9 @@ use std::alloc::AllocError;
 use std::sync::Wait;
 use std::thread::{Threads, join};
 
-/// Returns the attribute files within a worktree, in the order of their folders' paths. If the search is shared, a quarter of the
-/// entries is given to each of four threads, of which one is the caller's own. A thread that can't be started leaves its part
-/// to the caller's own.
+/// Returns the attribute files within a worktree, in the order of their folders' paths. If the search is shared, each of four
+/// threads searches for a quarter of the entries. One of them is the caller's own, which takes the part of a thread that can't
+/// be started.
 ///
 /// # Errors
 /// Out of memory.
