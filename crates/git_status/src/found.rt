@@ -47,7 +47,7 @@ where
     W::File: Send,
     S::Output: Send,
 {
-    /// Returns the attribute files that count for an index. With a thread limit of 1 no thread is started.
+    /// Returns the attribute files that count for an index. A thread limit below 4 is kept: then no thread is started.
     ///
     /// # Errors
     /// Out of memory.
@@ -59,7 +59,7 @@ where
         ensures { IfOk result (λ files. (⟦<Asked<'a, W, S, P, A> as Question>⟧.asking self.now).are_files index.now (map file_view files.items)) }
     {
         let search = FolderSearch::new(rt.alloc(), self.worktree, index, self.unread);
-        let shares = self.settings.options.thread_limit != Some(1);
+        let shares = allows_four(self.settings.options.thread_limit);
         let within = find_attribute_files(rt, &search, shares)?;
         self.attributes.with_others(rt.alloc(), within)
     }
@@ -143,5 +143,13 @@ where
         let bytes = changed_bytes(alloc, &mut read.file, &changes)?;
         refreshed.bytes = Some(bytes);
         Ok((report, refreshed))
+    }
+}
+
+/// Returns whether a thread limit allows four threads. With none, or with 0, the usual number is allowed, which is four.
+fn allows_four(limit: Option<usize>) -> bool {
+    match limit {
+        None | Some(0) => true,
+        Some(limit) => limit >= 4,
     }
 }
