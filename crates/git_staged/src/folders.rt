@@ -1,0 +1,130 @@
+//! The trees of the folders that are open while the entries of an index are put into its tree.
+//!
+//! The folders that contain the last item are open: later items may still come into them. Their bytes are in one
+//! buffer, each folder's after the start of its own item in its parent. To close the innermost folder, its bytes are
+//! replaced by their id.
+
+ghost use Rattle.std.specs.Prelude.{◌≡◌, ◌∷◌, [], List, ℕ, ◌<◌, length, position, All, false, IfOk, OnOk};
+ghost use Rattle.git_staged.specs.Trees.{Tree, and_folder, components, is_slash, no_items, put, tree_id_of};
+ghost use Rattle.git_staged.specs.Open.{Frame, IsLeft, IsAnywhere, IsStack, Makes, Reaches};
+
+use crate::item::{id_of_tree, push_item, push_start};
+use status_index::{HashKind, Mode, ObjectId};
+use std::alloc::{AllocError, Global};
+
+/// Where an open folder begins.
+#[derive(Clone, Copy)]
+struct Mark {
+    /// How many bytes its parent's path has.
+    path_len: usize,
+    /// Where the bytes of its tree begin.
+    start: usize,
+}
+
+/// A tree whose last folders are open.
+#[derive(Drop)]
+pub(crate) struct Folders {
+    /// The bytes of the tree, and of each open folder's tree.
+    bytes: Vec<u8>,
+    /// The path of the innermost open folder. A slash follows each component.
+    path: Vec<u8>,
+    /// The open folders, the innermost one last.
+    marks: Vec<Mark>,
+}
+
+impl Folders {
+    /// Returns the tree without items. Allocates no memory.
+    pub(crate) fn new(alloc: Global) -> Folders
+        ensures { (kind : HashKind) → Makes kind result no_items IsAnywhere }
+    {
+        Folders {
+            bytes: Vec::new(alloc),
+            path: Vec::new(alloc),
+            marks: Vec::new(alloc),
+        }
+    }
+
+    /// Puts a leaf below a path, at the end of the tree.
+    ///
+    /// # Errors
+    /// Out of memory. Then the tree can't be used any more.
+    pub(crate) fn put(
+        &mut self,
+        kind: HashKind,
+        path: &[u8],
+        mode: Mode,
+        id: ObjectId,
+    ) -> Result<(), AllocError>
+        requires { (t : Tree) × Makes kind self.old t IsAnywhere }
+        ensures { (t : Tree) → Makes kind self.old t IsAnywhere → OnOk result (Makes kind self.new (put (components path.now) mode id t) IsAnywhere) }
+    {
+        let mut rest = self.close_others(kind, path)?;
+        'components: while let Some(slash) = first_slash(rest) {
+            self.open_folder(&rest[..slash])?;
+            rest = &rest[slash + 1..];
+        }
+        push_item(&mut self.bytes, mode, rest, id)
+    }
+
+    /// Closes the folders that don't contain this path. Returns the path in the innermost folder that is left open.
+    fn close_others<'p>(&mut self, kind: HashKind, path: &'p [u8]) -> Result<&'p [u8], AllocError>
+        requires { (t : Tree) × Makes kind self.old t IsAnywhere }
+        ensures { (t : Tree) → Makes kind self.old t IsAnywhere → IfOk result (λ rest. Reaches kind self.new t path.entry.now rest.now) }
+    {
+        'folders: loop {
+            if let Some(rest) = path.strip_prefix(self.path.as_slice()) {
+                return Ok(rest);
+            }
+            self.close(kind)?;
+        }
+    }
+
+    /// Opens a folder in the innermost one. The name has no slash.
+    fn open_folder(&mut self, name: &[u8]) -> Result<(), AllocError>
+        ensures { (kind : HashKind) (fs : List Frame) (t : Tree) → IsStack kind self.old fs t → All (λ b. is_slash b ≡ false) name.now → OnOk result (IsStack kind self.new (record { before = t; name = name.now } ∷ fs) no_items) }
+    {
+        let path_len = self.path.len();
+        push_start(&mut self.bytes, Mode::Dir, name)?;
+        self.path.extend_from_slice(name)?;
+        self.path.push(b'/')?;
+        let start = self.bytes.len();
+        self.marks.push(Mark { path_len, start })?;
+        Ok(())
+    }
+
+    /// Closes the innermost folder, if one is open.
+    fn close(&mut self, kind: HashKind) -> Result<(), AllocError>
+        requires { (fs : List Frame) × (t : Tree) × IsStack kind self.old fs t }
+        ensures closed { (f : Frame) (fs : List Frame) (t : Tree) → IsStack kind self.old (f ∷ fs) t → OnOk result (IsStack kind self.new fs (and_folder f.before f.name t)) }
+        ensures fewer { 0 < length self.old.marks.items → length self.new.marks.items < length self.old.marks.items }
+    {
+        let Some(mark) = self.marks.pop() else {
+            return Ok(());
+        };
+        let id = id_of_tree(kind, &self.bytes[mark.start..]);
+        self.bytes.truncate(mark.start);
+        self.path.truncate(mark.path_len);
+        self.bytes.extend_from_slice(id.as_bytes())
+    }
+
+    /// Closes all folders, and returns the id of the tree.
+    ///
+    /// # Errors
+    /// Out of memory.
+    pub(crate) fn finish(mut self, kind: HashKind) -> Result<ObjectId, AllocError>
+        requires { (t : Tree) × Makes kind self t IsAnywhere }
+        ensures { (t : Tree) → Makes kind self t IsAnywhere → IfOk result (λ id. id ≡ tree_id_of kind t) }
+    {
+        while !self.marks.is_empty() {
+            self.close(kind)?;
+        }
+        Ok(id_of_tree(kind, self.bytes.as_slice()))
+    }
+}
+
+/// Returns the position of the first slash.
+fn first_slash(path: &[u8]) -> Option<usize>
+    ensures { result ≡ position is_slash path.now }
+{
+    path.iter().position(|byte| *byte == b'/')
+}

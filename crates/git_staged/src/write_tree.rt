@@ -1,0 +1,81 @@
+//! The id of the tree that an index makes.
+
+ghost use Rattle.std.specs.Prelude.{◌≡◌, ◌↔◌, IsTrue, IfOk, OnOk, Err, List};
+ghost use Rattle.std.specs.List.{list_any};
+ghost use Rattle.status_index.specs.Entries.{entry_at, index_entries};
+ghost use Rattle.status_index.specs.States.{index_of};
+ghost use Rattle.git_staged.specs.Trees.{Tree, and_entry, has_conflict, index_tree_id, path_of_item};
+ghost use Rattle.git_staged.specs.Open.{IsAnywhere, Makes};
+ghost use Rattle.status_index.specs.declared.entry.PathStorage.{PathStorage};
+
+use crate::error::TreeError;
+use crate::folders::Folders;
+use bitflags::Flags as _;
+use status_index::{Entry, Flags, HashKind, Mode, ObjectId, State};
+use std::alloc::{AllocError, Global};
+
+/// Returns the id of the tree that an index makes, as `git write-tree` prints it. An entry of `git add -N` isn't in the
+/// tree, and neither is a folder that has only such entries. A folder of a sparse index is in it by its own id.
+///
+/// `kind` is the digest of the repository. All ids of an index are of one kind; if theirs is another one, then their
+/// bytes are still put into the tree, which git wouldn't do. No object is read, and git's other checks aren't made:
+/// an index may have both `a` and `a/b`.
+///
+/// # Errors
+/// Returns `Conflict` exactly if an entry has a stage other than 0, and otherwise `Memory` if an allocation fails.
+pub fn tree_id(alloc: Global, kind: HashKind, index: &State) -> Result<ObjectId, TreeError>
+    ensures id { IfOk result (λ id. id ≡ index_tree_id kind (index_of index.now)) }
+    ensures conflict { (result ≡ Err TreeError.Conflict) ↔ IsTrue (has_conflict (index_of index.now)) }
+{
+    if has_conflict(index.entries()) {
+        return Err(TreeError::Conflict);
+    }
+    let id = id_of_entries(alloc, kind, index)?;
+    Ok(id)
+}
+
+/// Returns whether an entry has a stage other than 0.
+fn has_conflict(entries: &[Entry]) -> bool
+    ensures { (backing : PathStorage) → result ≡ has_conflict (index_entries backing entries.now) }
+{
+    entries.iter().any(|entry| entry.stage_raw() != 0)
+}
+
+/// Returns the id of the tree that the entries make.
+fn id_of_entries(alloc: Global, kind: HashKind, index: &State) -> Result<ObjectId, AllocError>
+    ensures { IfOk result (λ id. id ≡ index_tree_id kind (index_of index.now)) }
+{
+    let entries = index.entries();
+    let mut folders = Folders::new(alloc);
+    for entry in entries {
+        let path = entry.path_in(index.path_backing()).as_bytes();
+        put_entry(&mut folders, kind, entry, path)?;
+    }
+    folders.finish(kind)
+}
+
+/// Puts an entry into the tree, unless it is one of `git add -N`.
+fn put_entry(
+    folders: &mut Folders,
+    kind: HashKind,
+    entry: &Entry,
+    path: &[u8],
+) -> Result<(), AllocError>
+    requires { (t : Tree) × Makes kind folders.old t IsAnywhere }
+    ensures { (t : Tree) → Makes kind folders.old t IsAnywhere → OnOk result (Makes kind folders.new (and_entry t (entry_at path.now entry.now)) IsAnywhere) }
+{
+    if entry.flags.contains(Flags::INTENT_TO_ADD) {
+        return Ok(());
+    }
+    folders.put(kind, path_of_item(entry.mode, path), entry.mode, entry.id)
+}
+
+/// Returns the path of an entry's item: without the slash at its end for a folder of a sparse index.
+fn path_of_item(mode: Mode, path: &[u8]) -> &[u8]
+    ensures { result.now ≡ path_of_item mode path.entry.now }
+{
+    match (mode, path) {
+        (Mode::Dir, [folder @ .., b'/']) => folder,
+        _ => path,
+    }
+}
