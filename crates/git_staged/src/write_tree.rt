@@ -1,12 +1,12 @@
 //! The id of the tree that an index makes.
 
-ghost use Rattle.std.specs.Prelude.{◌≡◌, ◌↔◌, IsTrue, IfOk, OnOk, Err, List};
+ghost use Rattle.std.specs.Prelude.{◌≡◌, ◌==◌, ◌↔◌, not, IsTrue, IfOk, OnOk, Err, List};
 ghost use Rattle.std.specs.List.{list_any};
-ghost use Rattle.status_index.specs.Entries.{entry_at, index_entries};
+ghost use Rattle.status_index.specs.Entries.{entry_at};
+ghost use Rattle.status_index.specs.FlagBits.{stage_of_bits};
 ghost use Rattle.status_index.specs.States.{index_of};
 ghost use Rattle.git_staged.specs.Trees.{Tree, and_entry, has_conflict, index_tree_id, path_of_item};
 ghost use Rattle.git_staged.specs.Open.{IsAnywhere, Makes};
-ghost use Rattle.status_index.specs.declared.entry.PathStorage.{PathStorage};
 
 use crate::error::TreeError;
 use crate::folders::Folders;
@@ -36,7 +36,7 @@ pub fn tree_id(alloc: Global, kind: HashKind, index: &State) -> Result<ObjectId,
 
 /// Returns whether an entry has a stage other than 0.
 fn has_conflict(entries: &[Entry]) -> bool
-    ensures { (backing : PathStorage) → result ≡ has_conflict (index_entries backing entries.now) }
+    ensures { result ≡ list_any (λ e. not (stage_of_bits e.flags.0 == 0)) entries.now }
 {
     entries.iter().any(|entry| entry.stage_raw() != 0)
 }
