@@ -33,9 +33,16 @@ abbrev pub marks_of : HashKind → List Frame → List Mark
 marks_of kind [] = []
 marks_of kind (f ∷ fs) = marks_of kind fs ++ record { path_len = length (folder_path fs); start = length (open_bytes kind (f ∷ fs)) } ∷ []
 
--- A name without a slash.
+-- A component of a path: it has no slash.
+abbrev pub IsName : List ℕ → Type 0
+IsName name = All (λ b. is_slash b ≡ false) name
+
+-- A path is its first component, a slash, and the rest.
+abbrev pub IsFirst : List ℕ → List ℕ → List ℕ → Type 0
+IsFirst path name rest = IsName name × (path ≡ name ++ 47 ∷ rest)
+
 abbrev pub HasName : Frame → Type 0
-HasName f = All (λ b. is_slash b ≡ false) f.name
+HasName f = IsName f.name
 
 -- The open folders are these, and the innermost one has this tree.
 pub record IsStack (kind : HashKind) (s : Folders) (fs : List Frame) (t : Tree) : Type 0 where

@@ -4,9 +4,9 @@
 //! buffer, each folder's after the start of its own item in its parent. To close the innermost folder, its bytes are
 //! replaced by their id.
 
-ghost use Rattle.std.specs.Prelude.{◌≡◌, ◌∷◌, [], List, ℕ, ◌<◌, length, position, All, false, IfOk, OnOk};
+ghost use Rattle.std.specs.Prelude.{◌≡◌, ◌∷◌, [], List, ℕ, ◌<◌, length, position, IfOk, MatchOption, OnOk};
 ghost use Rattle.git_staged.specs.Trees.{Tree, and_folder, components, is_slash, no_items, put, tree_id_of};
-ghost use Rattle.git_staged.specs.Open.{Frame, IsLeft, IsAnywhere, IsStack, Makes, Reaches};
+ghost use Rattle.git_staged.specs.Open.{Frame, IsAnywhere, IsFirst, IsName, IsStack, Makes, Reaches};
 
 use crate::item::{id_of_tree, push_item, push_start};
 use status_index::{HashKind, Mode, ObjectId};
@@ -59,9 +59,9 @@ impl Folders {
         ensures { (t : Tree) → Makes kind self.old t IsAnywhere → OnOk result (Makes kind self.new (put (components path.now) mode id t) IsAnywhere) }
     {
         let mut rest = self.close_others(kind, path)?;
-        'components: while let Some(slash) = first_slash(rest) {
-            self.open_folder(&rest[..slash])?;
-            rest = &rest[slash + 1..];
+        'components: while let Some((name, inner)) = split_first(rest) {
+            self.open_folder(name)?;
+            rest = inner;
         }
         push_item(&mut self.bytes, mode, rest, id)
     }
@@ -81,7 +81,7 @@ impl Folders {
 
     /// Opens a folder in the innermost one. The name has no slash.
     fn open_folder(&mut self, name: &[u8]) -> Result<(), AllocError>
-        ensures { (kind : HashKind) (fs : List Frame) (t : Tree) → IsStack kind self.old fs t → All (λ b. is_slash b ≡ false) name.now → OnOk result (IsStack kind self.new (record { before = t; name = name.now } ∷ fs) no_items) }
+        ensures { (kind : HashKind) (fs : List Frame) (t : Tree) → IsStack kind self.old fs t → IsName name.now → OnOk result (IsStack kind self.new (record { before = t; name = name.now } ∷ fs) no_items) }
     {
         let path_len = self.path.len();
         push_start(&mut self.bytes, Mode::Dir, name)?;
@@ -119,6 +119,16 @@ impl Folders {
             self.close(kind)?;
         }
         Ok(id_of_tree(kind, self.bytes.as_slice()))
+    }
+}
+
+/// Splits a path at its first slash, into its first component and the rest. Returns None if there is no slash.
+fn split_first(path: &[u8]) -> Option<(&[u8], &[u8])>
+    ensures { MatchOption result (components path.entry.now ≡ path.entry.now ∷ []) (λ parts. IsFirst path.entry.now parts.0.now parts.1.now) }
+{
+    match first_slash(path) {
+        Some(slash) => Some((&path[..slash], &path[slash + 1..])),
+        None => None,
     }
 }
 

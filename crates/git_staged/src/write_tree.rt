@@ -64,7 +64,7 @@ fn put_entry(
     requires { (t : Tree) × Makes kind folders.old t IsAnywhere }
     ensures { (t : Tree) → Makes kind folders.old t IsAnywhere → OnOk result (Makes kind folders.new (and_entry t (entry_at path.now entry.now)) IsAnywhere) }
 {
-    if entry.flags.contains(Flags::INTENT_TO_ADD) {
+    if entry.flags.intersects(Flags::INTENT_TO_ADD) {
         return Ok(());
     }
     folders.put(kind, path_of_item(entry.mode, path), entry.mode, entry.id)

@@ -1,4 +1,4 @@
-use Rattle.std.proofs.Common.{◌≡◌, sym, ap, ◌∙◌, arith}
+use Rattle.std.proofs.Common.{ap, ◌∙◌, rules}
 use Rattle.git_staged.specs.Trees.{id_of_bytes}
 use Rattle.git_staged.proofs.Stack.{closed_last, all_closed}
 use Rattle.git_staged.proofs.folders.Folders.finish.Goals as goal
@@ -12,9 +12,9 @@ close-requires c =
 pub loop-self-preserved : goal.loop-self-preserved
 loop-self-preserved c = λ t m.
     let (fs, u, h, w, left) = c.loop-self.invariant t m in
-    closed_last c.args.kind c.loop-self.self c.close.new.self t fs u h w ? c.in_ok-close.ensures.closed
+    closed_last c.args.kind c.loop-self.self c.close.new.self t fs u h w (search rules) c.in_ok-close.ensures.closed
 
 pub returns : goal.returns
 returns c = λ t m.
     let (fs, u, h, w, left) = c.loop-self.invariant t m in
-    c.id_of_tree.ensures ∙ (ap (id_of_bytes c.args.kind) c.as_slice.ensures.value ∙ all_closed c.args.kind c.loop-self.self t fs u h w ?)
+    c.id_of_tree.ensures ∙ (ap (id_of_bytes c.args.kind) c.as_slice.ensures.value ∙ all_closed c.args.kind c.loop-self.self t fs u h w (search rules))
