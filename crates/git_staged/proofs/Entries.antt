@@ -6,10 +6,10 @@ use Rattle.status_index.specs.declared.entry.Entry.{Entry}
 use Rattle.status_index.specs.declared.entry.PathStorage.{PathStorage}
 use Rattle.status_index.specs.Entries.{IndexEntry, entry_at, index_entry, path_in}
 use Rattle.status_index.specs.FlagBits.{stage_of_bits}
-use Rattle.git_staged.specs.Trees.{Tree, no_items, and_entry, and_entries, has_conflict}
+use Rattle.git_staged.specs.Trees.{Items, no_items, and_entry, and_entries, has_conflict}
 
 -- One more entry comes last.
-pub and_more : (t : Tree) (es : List IndexEntry) (e : IndexEntry) → and_entries t (es ++ e ∷ []) ≡ and_entry (and_entries t es) e
+pub and_more : (t : Items) (es : List IndexEntry) (e : IndexEntry) → and_entries t (es ++ e ∷ []) ≡ and_entry (and_entries t es) e
 and_more t [] e = refl
 and_more t (x ∷ es) e = and_more (and_entry t x) es e
 

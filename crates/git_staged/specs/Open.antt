@@ -1,4 +1,4 @@
--- What the open folders have, while a tree is made.
+-- The open folders, while a tree is made.
 use Rattle.std.specs.Prelude.{◌≡◌, ◌≢◌, ℕ, List, [], ◌∷◌, ◌++◌, length, false, All, ⊤}
 use Rattle.std.specs.List.{AllByRecursion}
 use Rattle.status_index.specs.declared.id.HashKind.{HashKind}
@@ -6,24 +6,24 @@ use Rattle.status_index.specs.declared.mode.Mode.{Mode}
 use Rattle.status_index.specs.declared.mode.Mode.TheVariants.{Dir}
 use Rattle.git_staged.specs.declared.folders.Folders.{Folders}
 use Rattle.git_staged.specs.declared.folders.Mark.{Mark}
-use Rattle.git_staged.specs.Trees.{Tree, no_items, and_leaf, and_folder, is_slash, item_start, tree_bytes}
+use Rattle.git_staged.specs.Trees.{Items, no_items, and_leaf, and_folder, is_slash, item_start, tree_bytes}
 
--- An open folder: the items that precede it in its parent's tree, and its name. Lists of them begin with the innermost.
+-- An open folder: the items before it in its parent, and its name. Lists of them begin with the innermost one.
 pub record Frame : Type 0 where
-  pub before : Tree
+  pub before : Items
   pub name : List ℕ
 
--- The whole tree, if this is the innermost open folder's.
-abbrev pub whole : List Frame → Tree → Tree
-whole [] t = t
-whole (f ∷ fs) t = whole fs (and_folder f.before f.name t)
+-- All items of the tree, if these are the innermost open folder's.
+abbrev pub all_items : List Frame → Items → Items
+all_items [] t = t
+all_items (f ∷ fs) t = all_items fs (and_folder f.before f.name t)
 
 -- The path of the innermost open folder, with a slash after each component.
 abbrev pub folder_path : List Frame → List ℕ
 folder_path [] = []
 folder_path (f ∷ fs) = folder_path fs ++ (f.name ++ 47 ∷ [])
 
--- The bytes before those of the innermost open folder's tree.
+-- The bytes before those of the innermost open folder.
 abbrev pub open_bytes : HashKind → List Frame → List ℕ
 open_bytes kind [] = []
 open_bytes kind (f ∷ fs) = open_bytes kind fs ++ tree_bytes kind f.before ++ item_start Dir f.name
@@ -44,27 +44,27 @@ IsFirst path name rest = IsName name × (path ≡ name ++ 47 ∷ rest)
 abbrev pub HasName : Frame → Type 0
 HasName f = IsName f.name
 
--- The open folders are these, and the innermost one has this tree.
-pub record IsStack (kind : HashKind) (s : Folders) (fs : List Frame) (t : Tree) : Type 0 where
+-- The open folders are these, and the innermost one has these items.
+pub record IsStack (kind : HashKind) (s : Folders) (fs : List Frame) (t : Items) : Type 0 where
   pub bytes : s.bytes.items ≡ open_bytes kind fs ++ tree_bytes kind t
   pub path : s.path.items ≡ folder_path fs
   pub marks : s.marks.items ≡ marks_of kind fs
   pub named : AllByRecursion HasName fs
 
--- Folders are open, and the whole tree is this one. The predicate holds of the open folders.
-abbrev pub Makes : HashKind → Folders → Tree → (List Frame → Tree → Type 0) → Type 0
-Makes kind s made P = (fs : List Frame) × (t : Tree) × IsStack kind s fs t × (whole fs t ≡ made) × P fs t
+-- These are all items of the tree. The predicate holds of the open folders and of the innermost one's items.
+abbrev pub Makes : HashKind → Folders → Items → (List Frame → Items → Type 0) → Type 0
+Makes kind s made P = (fs : List Frame) × (t : Items) × IsStack kind s fs t × (all_items fs t ≡ made) × P fs t
 
 -- If the last item is a folder, then it doesn't contain this path.
-abbrev pub IsLeft : List ℕ → List Frame → Tree → Type 0
-IsLeft path fs no_items = ⊤
-IsLeft path fs (and_leaf t name mode id) = ⊤
-IsLeft path fs (and_folder t name items) = (rest : List ℕ) → path ≢ folder_path (record { before = t; name = name } ∷ fs) ++ rest
+abbrev pub IsAfterLast : List ℕ → List Frame → Items → Type 0
+IsAfterLast path fs no_items = ⊤
+IsAfterLast path fs (and_leaf t name mode id) = ⊤
+IsAfterLast path fs (and_folder t name items) = (rest : List ℕ) → path ≢ folder_path (record { before = t; name = name } ∷ fs) ++ rest
 
 -- The last item isn't a folder.
-abbrev pub IsAnywhere : List Frame → Tree → Type 0
-IsAnywhere fs t = (path : List ℕ) → IsLeft path fs t
+abbrev pub HasNoLastFolder : List Frame → Items → Type 0
+HasNoLastFolder fs t = (path : List ℕ) → IsAfterLast path fs t
 
--- The path is in the innermost open folder, where it is `rest`, and it isn't in the last item.
-abbrev pub Reaches : HashKind → Folders → Tree → List ℕ → List ℕ → Type 0
-Reaches kind s made path rest = Makes kind s made (λ fs t. IsLeft path fs t × (path ≡ folder_path fs ++ rest))
+-- The path is in the innermost open folder, where it is `rest`, and it isn't in the last item there.
+abbrev pub Reaches : HashKind → Folders → Items → List ℕ → List ℕ → Type 0
+Reaches kind s made path rest = Makes kind s made (λ fs t. IsAfterLast path fs t × (path ≡ folder_path fs ++ rest))

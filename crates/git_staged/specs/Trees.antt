@@ -11,31 +11,31 @@ use Rattle.status_index.specs.BlobId.{digest_id, id_bytes}
 use Rattle.status_index.specs.Entries.{IndexEntry, stage_of}
 use Rattle.status_index.specs.FlagBits.{has_bits}
 
--- A tree is a list of items: it has none, or it is a tree and one more item, a leaf or a folder, which has a tree itself.
-pub data Tree : Type 0 where
-  no_items : Tree
-  and_leaf : Tree → (name : List ℕ) → Mode → ObjectId → Tree
-  and_folder : Tree → (name : List ℕ) → Tree → Tree
+-- The items of a tree: none, or items and one more after them, a leaf or a folder. A folder has items itself.
+pub data Items : Type 0 where
+  no_items : Items
+  and_leaf : Items → (name : List ℕ) → Mode → ObjectId → Items
+  and_folder : Items → (name : List ℕ) → (inner : Items) → Items
 
--- A tree without its last item, if that is the folder of this name.
-abbrev pub before_folder : List ℕ → Tree → Tree
+-- Items without the last one, if that is the folder of this name.
+abbrev pub before_folder : List ℕ → Items → Items
 before_folder name no_items = no_items
-before_folder name (and_leaf t other mode id) = and_leaf t other mode id
-before_folder name (and_folder t other items) = if bytes_eq other name then t else and_folder t other items
+before_folder name (and_leaf items other mode id) = and_leaf items other mode id
+before_folder name (and_folder items other inner) = if bytes_eq other name then items else and_folder items other inner
 
--- The tree of the last item, if that is the folder of this name. Otherwise it has no items.
-abbrev pub in_folder : List ℕ → Tree → Tree
+-- The items in the last one, if that is the folder of this name, and otherwise none.
+abbrev pub in_folder : List ℕ → Items → Items
 in_folder name no_items = no_items
-in_folder name (and_leaf t other mode id) = no_items
-in_folder name (and_folder t other items) = if bytes_eq other name then items else no_items
+in_folder name (and_leaf items other mode id) = no_items
+in_folder name (and_folder items other inner) = if bytes_eq other name then inner else no_items
 
--- A tree with one more leaf below a path: at the end, or in the folder at the end, which is a new one unless the last
--- item is the folder of this name.
-abbrev pub put : List (List ℕ) → Mode → ObjectId → Tree → Tree
-put [] mode id t = t
-put (name ∷ path) mode id t =
-    if length path == 0 then and_leaf t name mode id
-    else and_folder (before_folder name t) name (put path mode id (in_folder name t))
+-- Items and one more leaf, below a path of components. The last component is the leaf's name. If there are others, the
+-- leaf is put into the last item if that is the folder of the first one's name, and otherwise into a new folder.
+abbrev pub put : List (List ℕ) → Mode → ObjectId → Items → Items
+put [] mode id items = items
+put (name ∷ path) mode id items =
+    if length path == 0 then and_leaf items name mode id
+    else and_folder (before_folder name items) name (put path mode id (in_folder name items))
 
 abbrev pub is_slash : ℕ → Bool
 is_slash b = b == 47
@@ -52,44 +52,44 @@ path_of_item FileExecutable path = path
 path_of_item Symlink path = path
 path_of_item Commit path = path
 
--- A tree with one more entry of an index. An entry of `git add -N` isn't put into it.
-abbrev pub and_entry : Tree → IndexEntry → Tree
-and_entry t e =
-    if has_bits e.flags.0 INTENT_TO_ADD.0 then t
-    else put (components (path_of_item e.mode e.path)) e.mode e.id t
+-- Items and one more entry of an index. An entry of `git add -N` is left out.
+abbrev pub and_entry : Items → IndexEntry → Items
+and_entry items e =
+    if has_bits e.flags.0 INTENT_TO_ADD.0 then items
+    else put (components (path_of_item e.mode e.path)) e.mode e.id items
 
--- A tree with these entries, in order.
-abbrev pub and_entries : Tree → List IndexEntry → Tree
-and_entries t [] = t
-and_entries t (e ∷ es) = and_entries (and_entry t e) es
+-- Items and these entries, in order.
+abbrev pub and_entries : Items → List IndexEntry → Items
+and_entries items [] = items
+and_entries items (e ∷ es) = and_entries (and_entry items e) es
 
 -- A mode in octal. That of a folder has no zero in front.
-abbrev pub mode_digits : Mode → List ℕ
-mode_digits Dir = codes "40000"
-mode_digits File = codes "100644"
-mode_digits FileExecutable = codes "100755"
-mode_digits Symlink = codes "120000"
-mode_digits Commit = codes "160000"
+abbrev pub octal_mode : Mode → List ℕ
+octal_mode Dir = codes "40000"
+octal_mode File = codes "100644"
+octal_mode FileExecutable = codes "100755"
+octal_mode Symlink = codes "120000"
+octal_mode Commit = codes "160000"
 
 -- What precedes an item's id: its mode, a space, its name and a zero byte.
 abbrev pub item_start : Mode → List ℕ → List ℕ
-item_start mode name = mode_digits mode ++ codes " " ++ name ++ 0 ∷ []
+item_start mode name = octal_mode mode ++ codes " " ++ name ++ 0 ∷ []
 
 abbrev pub item_bytes : Mode → List ℕ → ObjectId → List ℕ
 item_bytes mode name id = item_start mode name ++ id_bytes id
 
--- The id of a tree with these bytes: the digest of `tree `, their number in decimal, a zero byte and the bytes.
-abbrev pub id_of_bytes : HashKind → List ℕ → ObjectId
-id_of_bytes kind bytes = digest_id kind (codes "tree " ++ decimal (length bytes) ++ 0 ∷ [] ++ bytes)
+-- The id of the tree object with these bytes: the digest of `tree `, their number in decimal, a zero byte and the bytes.
+abbrev pub tree_object_id : HashKind → List ℕ → ObjectId
+tree_object_id kind bytes = digest_id kind (codes "tree " ++ decimal (length bytes) ++ 0 ∷ [] ++ bytes)
 
--- The bytes of a tree: those of its items, in order. The id of a folder's item is its tree's.
-abbrev pub tree_bytes : HashKind → Tree → List ℕ
+-- The bytes of a tree: those of its items, in order. A folder's item has the id of the folder's own tree.
+abbrev pub tree_bytes : HashKind → Items → List ℕ
 tree_bytes kind no_items = []
-tree_bytes kind (and_leaf t name mode id) = tree_bytes kind t ++ item_bytes mode name id
-tree_bytes kind (and_folder t name items) = tree_bytes kind t ++ item_bytes Dir name (id_of_bytes kind (tree_bytes kind items))
+tree_bytes kind (and_leaf items name mode id) = tree_bytes kind items ++ item_bytes mode name id
+tree_bytes kind (and_folder items name inner) = tree_bytes kind items ++ item_bytes Dir name (tree_object_id kind (tree_bytes kind inner))
 
-abbrev pub tree_id_of : HashKind → Tree → ObjectId
-tree_id_of kind t = id_of_bytes kind (tree_bytes kind t)
+abbrev pub tree_id_of : HashKind → Items → ObjectId
+tree_id_of kind items = tree_object_id kind (tree_bytes kind items)
 
 -- The id of the tree that the entries of an index make.
 abbrev pub index_tree_id : HashKind → List IndexEntry → ObjectId

@@ -5,8 +5,8 @@
 //! replaced by their id.
 
 ghost use Rattle.std.specs.Prelude.{◌≡◌, ◌∷◌, [], List, ℕ, ◌<◌, length, position, IfOk, MatchOption, OnOk};
-ghost use Rattle.git_staged.specs.Trees.{Tree, and_folder, components, is_slash, no_items, put, tree_id_of};
-ghost use Rattle.git_staged.specs.Open.{Frame, IsAnywhere, IsFirst, IsName, IsStack, Makes, Reaches};
+ghost use Rattle.git_staged.specs.Trees.{Items, and_folder, components, is_slash, no_items, put, tree_id_of};
+ghost use Rattle.git_staged.specs.Open.{Frame, HasNoLastFolder, IsFirst, IsName, IsStack, Makes, Reaches};
 
 use crate::item::{id_of_tree, push_item, push_start};
 use status_index::{HashKind, Mode, ObjectId};
@@ -35,7 +35,7 @@ pub(crate) struct Folders {
 impl Folders {
     /// Returns the tree without items. Allocates no memory.
     pub(crate) fn new(alloc: Global) -> Folders
-        ensures { (kind : HashKind) → Makes kind result no_items IsAnywhere }
+        ensures { (kind : HashKind) → Makes kind result no_items HasNoLastFolder }
     {
         Folders {
             bytes: Vec::new(alloc),
@@ -55,8 +55,8 @@ impl Folders {
         mode: Mode,
         id: ObjectId,
     ) -> Result<(), AllocError>
-        requires { (t : Tree) × Makes kind self.old t IsAnywhere }
-        ensures { (t : Tree) → Makes kind self.old t IsAnywhere → OnOk result (Makes kind self.new (put (components path.now) mode id t) IsAnywhere) }
+        requires { (t : Items) × Makes kind self.old t HasNoLastFolder }
+        ensures { (t : Items) → Makes kind self.old t HasNoLastFolder → OnOk result (Makes kind self.new (put (components path.now) mode id t) HasNoLastFolder) }
     {
         let mut rest = self.close_others(kind, path)?;
         'components: while let Some((name, inner)) = split_first(rest) {
@@ -68,8 +68,8 @@ impl Folders {
 
     /// Closes the folders that don't contain this path. Returns the path in the innermost folder that is left open.
     fn close_others<'p>(&mut self, kind: HashKind, path: &'p [u8]) -> Result<&'p [u8], AllocError>
-        requires { (t : Tree) × Makes kind self.old t IsAnywhere }
-        ensures { (t : Tree) → Makes kind self.old t IsAnywhere → IfOk result (λ rest. Reaches kind self.new t path.entry.now rest.now) }
+        requires { (t : Items) × Makes kind self.old t HasNoLastFolder }
+        ensures { (t : Items) → Makes kind self.old t HasNoLastFolder → IfOk result (λ rest. Reaches kind self.new t path.entry.now rest.now) }
     {
         'folders: loop {
             if let Some(rest) = path.strip_prefix(self.path.as_slice()) {
@@ -81,7 +81,7 @@ impl Folders {
 
     /// Opens a folder in the innermost one. The name has no slash.
     fn open_folder(&mut self, name: &[u8]) -> Result<(), AllocError>
-        ensures { (kind : HashKind) (fs : List Frame) (t : Tree) → IsStack kind self.old fs t → IsName name.now → OnOk result (IsStack kind self.new (record { before = t; name = name.now } ∷ fs) no_items) }
+        ensures { (kind : HashKind) (fs : List Frame) (t : Items) → IsStack kind self.old fs t → IsName name.now → OnOk result (IsStack kind self.new (record { before = t; name = name.now } ∷ fs) no_items) }
     {
         let path_len = self.path.len();
         push_start(&mut self.bytes, Mode::Dir, name)?;
@@ -94,8 +94,8 @@ impl Folders {
 
     /// Closes the innermost folder, if one is open.
     fn close(&mut self, kind: HashKind) -> Result<(), AllocError>
-        requires { (fs : List Frame) × (t : Tree) × IsStack kind self.old fs t }
-        ensures closed { (f : Frame) (fs : List Frame) (t : Tree) → IsStack kind self.old (f ∷ fs) t → OnOk result (IsStack kind self.new fs (and_folder f.before f.name t)) }
+        requires { (fs : List Frame) × (t : Items) × IsStack kind self.old fs t }
+        ensures closed { (f : Frame) (fs : List Frame) (t : Items) → IsStack kind self.old (f ∷ fs) t → OnOk result (IsStack kind self.new fs (and_folder f.before f.name t)) }
         ensures fewer { 0 < length self.old.marks.items → length self.new.marks.items < length self.old.marks.items }
     {
         let Some(mark) = self.marks.pop() else {
@@ -112,8 +112,8 @@ impl Folders {
     /// # Errors
     /// Out of memory.
     pub(crate) fn finish(mut self, kind: HashKind) -> Result<ObjectId, AllocError>
-        requires { (t : Tree) × Makes kind self t IsAnywhere }
-        ensures { (t : Tree) → Makes kind self t IsAnywhere → IfOk result (λ id. id ≡ tree_id_of kind t) }
+        requires { (t : Items) × Makes kind self t HasNoLastFolder }
+        ensures { (t : Items) → Makes kind self t HasNoLastFolder → IfOk result (λ id. id ≡ tree_id_of kind t) }
     {
         while !self.marks.is_empty() {
             self.close(kind)?;

@@ -1,7 +1,7 @@
 //! The bytes of a tree's items, and the id of a tree.
 
 ghost use Rattle.std.specs.Prelude.{◌≡◌, ◌++◌, OnOk};
-ghost use Rattle.git_staged.specs.Trees.{id_of_bytes, item_bytes, item_start, mode_digits};
+ghost use Rattle.git_staged.specs.Trees.{tree_object_id, item_bytes, item_start, octal_mode};
 
 use sha2::Digest;
 use status_index::{HashKind, Mode, ObjectId};
@@ -9,7 +9,7 @@ use std::alloc::AllocError;
 
 /// Returns a mode in octal, as a tree has it: a folder's without a zero in front.
 fn digits_of(mode: Mode) -> &'static [u8]
-    ensures { result.now ≡ mode_digits mode }
+    ensures { result.now ≡ octal_mode mode }
 {
     match mode {
         Mode::Dir => b"40000",
@@ -52,7 +52,7 @@ pub(crate) fn push_item(
 /// Returns the id of the tree with these bytes: the digest of `tree `, their number in decimal, a zero byte, and the
 /// bytes. Allocates no memory.
 pub(crate) fn id_of_tree(kind: HashKind, bytes: &[u8]) -> ObjectId
-    ensures { result ≡ id_of_bytes kind bytes.now }
+    ensures { result ≡ tree_object_id kind bytes.now }
 {
     let mut buffer = itoa::Buffer::new();
     let len = buffer.format(bytes.len()).as_bytes();

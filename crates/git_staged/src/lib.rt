@@ -7,6 +7,8 @@
 pub mod error;
 mod folders;
 mod item;
+#[cfg(test)]
+mod tests;
 mod write_tree;
 
 pub use error::TreeError;

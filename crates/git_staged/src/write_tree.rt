@@ -5,8 +5,8 @@ ghost use Rattle.std.specs.List.{list_any};
 ghost use Rattle.status_index.specs.Entries.{entry_at};
 ghost use Rattle.status_index.specs.FlagBits.{stage_of_bits};
 ghost use Rattle.status_index.specs.States.{index_of};
-ghost use Rattle.git_staged.specs.Trees.{Tree, and_entry, has_conflict, index_tree_id, path_of_item};
-ghost use Rattle.git_staged.specs.Open.{IsAnywhere, Makes};
+ghost use Rattle.git_staged.specs.Trees.{Items, and_entry, has_conflict, index_tree_id, path_of_item};
+ghost use Rattle.git_staged.specs.Open.{HasNoLastFolder, Makes};
 
 use crate::error::TreeError;
 use crate::folders::Folders;
@@ -61,8 +61,8 @@ fn put_entry(
     entry: &Entry,
     path: &[u8],
 ) -> Result<(), AllocError>
-    requires { (t : Tree) × Makes kind folders.old t IsAnywhere }
-    ensures { (t : Tree) → Makes kind folders.old t IsAnywhere → OnOk result (Makes kind folders.new (and_entry t (entry_at path.now entry.now)) IsAnywhere) }
+    requires { (t : Items) × Makes kind folders.old t HasNoLastFolder }
+    ensures { (t : Items) → Makes kind folders.old t HasNoLastFolder → OnOk result (Makes kind folders.new (and_entry t (entry_at path.now entry.now)) HasNoLastFolder) }
 {
     if entry.flags.intersects(Flags::INTENT_TO_ADD) {
         return Ok(());

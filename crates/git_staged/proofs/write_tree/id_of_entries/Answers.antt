@@ -5,8 +5,8 @@ use Rattle.status_index.specs.declared.entry.Entry.{Entry}
 use Rattle.status_index.specs.declared.id.ObjectId.{ObjectId}
 use Rattle.status_index.specs.Entries.{index_entry}
 use Rattle.status_index.specs.States.{backing_of}
-use Rattle.git_staged.specs.Trees.{Tree, and_entries, no_items, tree_id_of}
-use Rattle.git_staged.specs.Open.{IsAnywhere, Makes}
+use Rattle.git_staged.specs.Trees.{Items, and_entries, no_items, tree_id_of}
+use Rattle.git_staged.specs.Open.{HasNoLastFolder, Makes}
 use Rattle.git_staged.proofs.Entries.{entry_more}
 use Rattle.git_staged.proofs.write_tree.id_of_entries.Goals as goal
 
@@ -16,7 +16,7 @@ loop-entry-preserved c =
     let n = c.loop-entry.entry-index in
     let backing = backing_of c.args.index.now in
     let more = entry_more backing xs n _ c.as_bytes-path.result.now (take-suc xs n _ c.loop-entry-test.true) (c.as_bytes-path.ensures ∙ (rw c.path_backing.ensures at c.path_in.ensures)) in
-    subst (λ (t : Tree). Makes c.args.kind c.put_entry.new.folders t IsAnywhere) more (c.in_ok-put_entry.ensures (and_entries no_items (map (index_entry backing) (take n xs))) c.loop-entry.invariant)
+    subst (λ (t : Items). Makes c.args.kind c.put_entry.new.folders t HasNoLastFolder) more (c.in_ok-put_entry.ensures (and_entries no_items (map (index_entry backing) (take n xs))) c.loop-entry.invariant)
 
 pub returns : goal.returns
 returns c =

@@ -1,5 +1,5 @@
 use Rattle.std.proofs.Common.{ap, ◌∙◌, rules}
-use Rattle.git_staged.specs.Trees.{id_of_bytes}
+use Rattle.git_staged.specs.Trees.{tree_object_id}
 use Rattle.git_staged.proofs.Stack.{closed_last, all_closed}
 use Rattle.git_staged.proofs.folders.Folders.finish.Goals as goal
 
@@ -17,4 +17,4 @@ loop-self-preserved c = λ t m.
 pub returns : goal.returns
 returns c = λ t m.
     let (fs, u, h, w, left) = c.loop-self.invariant t m in
-    c.id_of_tree.ensures ∙ (ap (id_of_bytes c.args.kind) c.as_slice.ensures.value ∙ all_closed c.args.kind c.loop-self.self t fs u h w (search rules))
+    c.id_of_tree.ensures ∙ (ap (tree_object_id c.args.kind) c.as_slice.ensures.value ∙ all_closed c.args.kind c.loop-self.self t fs u h w (search rules))

@@ -1,11 +1,11 @@
 use Rattle.std.proofs.Common.{length}
-use Rattle.git_staged.specs.Trees.{Tree}
-use Rattle.git_staged.specs.Open.{IsAnywhere, Makes}
+use Rattle.git_staged.specs.Trees.{Items}
+use Rattle.git_staged.specs.Open.{HasNoLastFolder, Makes}
 use Rattle.git_staged.proofs.folders.Folders.finish.Given as goal
 
 -- closing folders changes no tree
 abbrev pub invariant-loop-self : goal.invariant-loop-self
-invariant-loop-self l = (t : Tree) → Makes l.kind l.fn.self t IsAnywhere → Makes l.kind l.self t (λ fs u. Unit {0})
+invariant-loop-self l = (t : Items) → Makes l.kind l.fn.self t HasNoLastFolder → Makes l.kind l.self t (λ fs u. Unit {0})
 
 abbrev pub decreases-loop-self : goal.decreases-loop-self
 decreases-loop-self l = length l.self.marks.items

@@ -1,12 +1,12 @@
 use Rattle.std.proofs.Common.{length}
-use Rattle.git_staged.specs.Trees.{Tree, components, put}
-use Rattle.git_staged.specs.Open.{IsAnywhere, Makes}
+use Rattle.git_staged.specs.Trees.{Items, components, put}
+use Rattle.git_staged.specs.Open.{HasNoLastFolder, Makes}
 use Rattle.git_staged.proofs.Stack.{PutsRest}
 use Rattle.git_staged.proofs.folders.Folders.put.Given as goal
 
 -- the folders passed so far are open, and the rest is to be put into the innermost one
 abbrev pub invariant-components : goal.invariant-components
-invariant-components l = (t : Tree) → Makes l.fn.kind l.fn.self t IsAnywhere → PutsRest l.fn.kind l.self l.rest l.mode l.id (put (components l.path) l.mode l.id t)
+invariant-components l = (t : Items) → Makes l.fn.kind l.fn.self t HasNoLastFolder → PutsRest l.fn.kind l.self l.rest l.mode l.id (put (components l.path) l.mode l.id t)
 
 abbrev pub decreases-components : goal.decreases-components
 decreases-components l = length l.rest
