@@ -1,10 +1,10 @@
 -- What `put` does below open folders.
-use Rattle.std.proofs.Common.{◌≡◌, ◌≢◌, ℕ, suc, ◌+◌, ◌<◌, ◌==◌, Bool, true, false, cond, eqb, ltb, List, [], ◌∷◌, ◌++◌, length, take, drop, get_or, position, Option, Some, None, All, refl, sym, ◌∙◌, ap, subst, arith, add-one, append_assoc}
-use Rattle.std.specs.List.{slice_split, AllByRecursion, count_by, position_or_len}
+use Rattle.std.proofs.Common.{◌≡◌, ◌≢◌, ℕ, suc, ◌+◌, ◌<◌, ◌==◌, Bool, true, false, cond, eqb, ltb, List, [], ◌∷◌, ◌++◌, length, take, drop, get_or, position, Some, None, All, refl, sym, ◌∙◌, ap, arith, add-one, append_assoc}
+use Rattle.std.specs.List.{AllByRecursion, count_by, position_or_len}
 use Rattle.std.specs.Str.{bytes_eq}
 use Rattle.std.proofs.lemmas.Bool.{eqb-true, ltb-false}
 use Rattle.std.proofs.lemmas.List.Sums.{fails_before_first}
-use Rattle.std.proofs.lemmas.List.{take-append-drop, get_or-take, length-take-le, append-nil}
+use Rattle.std.proofs.lemmas.List.{take-append-drop, get_or-take, length-take-le}
 use Rattle.std.proofs.Math.Seq.{drop-cons}
 use Rattle.std.proofs.Math.Dec.{eqb-suc-zero}
 use Rattle.std.proofs.lemmas.List.Elements.{All-from_get_or}
@@ -14,7 +14,7 @@ use Rattle.std.proofs.lemmas.Slice.Eq.{bytes_eq-Decides}
 use Rattle.status_index.specs.declared.id.ObjectId.{ObjectId}
 use Rattle.status_index.specs.declared.mode.Mode.{Mode}
 use Rattle.git_staged.specs.Trees.{Items, no_items, and_leaf, and_folder, before_folder, in_folder, put, is_slash, components}
-use Rattle.git_staged.specs.Open.{Frame, all_items, folder_path, HasName, IsAfterLast}
+use Rattle.git_staged.specs.OpenFolders.{Frame, all_items, folder_path, HasName, IsAfterLast}
 
 -- A path has a component.
 pub some_component : (path : List ℕ) → (length (components path) == 0) ≡ false

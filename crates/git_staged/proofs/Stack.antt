@@ -1,19 +1,19 @@
 -- What the open folders have, after each step.
-use Rattle.std.proofs.Common.{◌≡◌, ◌≢◌, ℕ, ◌+◌, ◌<◌, ◌≤◌, Bool, false, List, [], ◌∷◌, ◌++◌, length, take, drop, Result, Ok, Err, OnOk, All, refl, sym, ◌∙◌, ap, subst, arith, append_assoc, if◌then◌else◌}
+use Rattle.std.proofs.Common.{◌≡◌, ◌≢◌, ℕ, ◌<◌, ◌≤◌, false, List, [], ◌∷◌, ◌++◌, length, take, drop, Result, Ok, Err, OnOk, All, refl, sym, ◌∙◌, ap, arith, append_assoc, if◌then◌else◌}
 use Rattle.std.specs.Result.{is_ok}
 use Rattle.std.specs.declared.alloc.AllocError.{AllocError}
-use Rattle.std.proofs.lemmas.List.{same_from_push, length-append, append-nil}
+use Rattle.std.proofs.lemmas.List.{same_from_push, length-append}
 use Rattle.std.proofs.Math.Seq.{take-append_seam, drop-append_seam}
 use Rattle.status_index.specs.declared.id.HashKind.{HashKind}
 use Rattle.status_index.specs.declared.id.ObjectId.{ObjectId}
 use Rattle.status_index.specs.declared.mode.Mode.{Mode}
 use Rattle.status_index.specs.declared.mode.Mode.TheVariants.{Dir}
 use Rattle.status_index.specs.BlobId.{id_bytes}
-use Rattle.git_staged.specs.declared.folders.Folders.{Folders}
-use Rattle.git_staged.specs.declared.folders.Mark.{Mark}
+use Rattle.git_staged.specs.declared.builder.TreeBuilder.{TreeBuilder}
+use Rattle.git_staged.specs.declared.builder.Mark.{Mark}
 use Rattle.git_staged.specs.Trees.{Items, no_items, and_leaf, and_folder, is_slash, item_start, item_bytes, tree_object_id, tree_bytes, tree_id_of, components, put}
-use Rattle.git_staged.specs.Open.{Frame, all_items, folder_path, open_bytes, marks_of, HasName, IsStack, IsAfterLast, HasNoLastFolder, Makes, Reaches}
-use Rattle.git_staged.proofs.Puts.{put_in_open, put_new, first_name}
+use Rattle.git_staged.specs.OpenFolders.{Frame, all_items, folder_path, open_bytes, marks_of, IsStack, IsAfterLast, HasNoLastFolder, Makes, Reaches}
+use Rattle.git_staged.proofs.Puts.{put_in_open, put_new}
 
 -- Where the innermost folder begins.
 abbrev pub mark_of : HashKind → Frame → List Frame → Mark
@@ -25,7 +25,7 @@ pub popped : (kind : HashKind) (fs : List Frame) (rest : List Mark) (m : Mark) �
 popped kind [] rest m e = absurd (omega (arith, ap length e, length-append rest (m ∷ [])))
 popped kind (f ∷ gs) rest m e = let p = same_from_push (marks_of kind gs) rest (mark_of kind f gs) m e in (f, gs, refl, sym p.0, sym p.1)
 
-pub start_within : (kind : HashKind) (s : Folders) (fs : List Frame) (t : Items) (rest : List Mark) (m : Mark) → IsStack kind s fs t → s.marks.items ≡ rest ++ m ∷ [] → m.start ≤ length s.bytes.items
+pub start_within : (kind : HashKind) (s : TreeBuilder) (fs : List Frame) (t : Items) (rest : List Mark) (m : Mark) → IsStack kind s fs t → s.marks.items ≡ rest ++ m ∷ [] → m.start ≤ length s.bytes.items
 start_within kind s fs t rest m h e =
     let p = popped kind fs rest m (sym h.marks ∙ e) in
     let start : m.start ≡ length (open_bytes kind fs) = ap (λ (n : Mark). n.start) p.4 ∙ ap (λ (gs : List Frame). length (open_bytes kind gs)) (sym p.2) in
@@ -35,7 +35,7 @@ regroup : (a b c d : List ℕ) → ((a ++ b) ++ c) ++ d ≡ a ++ (b ++ (c ++ d))
 regroup a b c d = simp append_assoc
 
 -- The innermost folder is closed.
-pub closed_folder : (kind : HashKind) (s new : Folders) (f : Frame) (fs : List Frame) (t : Items) (m : Mark) (id : ObjectId) (body : List ℕ) (r : Result (Unit {0}) AllocError) → IsStack kind s (f ∷ fs) t
+pub closed_folder : (kind : HashKind) (s new : TreeBuilder) (f : Frame) (fs : List Frame) (t : Items) (m : Mark) (id : ObjectId) (body : List ℕ) (r : Result (Unit {0}) AllocError) → IsStack kind s (f ∷ fs) t
     → s.marks.items ≡ new.marks.items ++ m ∷ [] → body ≡ drop m.start s.bytes.items → id ≡ tree_object_id kind body
     → new.bytes.items ≡ (if is_ok r then take m.start s.bytes.items ++ id_bytes id else take m.start s.bytes.items) → new.path.items ≡ take m.path_len s.path.items
     → OnOk r (IsStack kind new fs (and_folder f.before f.name t))
@@ -58,11 +58,11 @@ closed_folder kind s new f fs t m id body (Ok u) h e d i b p =
 
 -- ---- closing the folders that don't contain a path
 
-pub some_open : (kind : HashKind) (s : Folders) (path : List ℕ) (fs : List Frame) (t : Items) → IsStack kind s fs t → ((rest : List ℕ) → path ≢ s.path.items ++ rest) → 0 < length s.marks.items
+pub some_open : (kind : HashKind) (s : TreeBuilder) (path : List ℕ) (fs : List Frame) (t : Items) → IsStack kind s fs t → ((rest : List ℕ) → path ≢ s.path.items ++ rest) → 0 < length s.marks.items
 some_open kind s path [] t h outside = absurd (outside path (ap (λ (p : List ℕ). p ++ path) (sym h.path)))
 some_open kind s path (f ∷ fs) t h outside = omega (arith, ap length h.marks, length-append (marks_of kind fs) (mark_of kind f fs ∷ []))
 
-pub closed_other : (kind : HashKind) (old new : Folders) (path : List ℕ) (made : Items) (fs : List Frame) (t : Items) → IsStack kind old fs t → all_items fs t ≡ made → ((rest : List ℕ) → path ≢ old.path.items ++ rest)
+pub closed_other : (kind : HashKind) (old new : TreeBuilder) (path : List ℕ) (made : Items) (fs : List Frame) (t : Items) → IsStack kind old fs t → all_items fs t ≡ made → ((rest : List ℕ) → path ≢ old.path.items ++ rest)
     → ((f : Frame) (gs : List Frame) (u : Items) → IsStack kind old (f ∷ gs) u → IsStack kind new gs (and_folder f.before f.name u)) → Makes kind new made (IsAfterLast path)
 closed_other kind old new path made [] t h w outside closed = absurd (outside path (ap (λ (p : List ℕ). p ++ path) (sym h.path)))
 closed_other kind old new path made (f ∷ fs) t h w outside closed =
@@ -71,7 +71,7 @@ closed_other kind old new path made (f ∷ fs) t h w outside closed =
 -- ---- the components of the path are passed
 
 -- The path's rest is to be put into the innermost folder, and not into its last item.
-pub record PutsRest (kind : HashKind) (s : Folders) (rest : List ℕ) (mode : Mode) (id : ObjectId) (made : Items) : Type 0 where
+pub record PutsRest (kind : HashKind) (s : TreeBuilder) (rest : List ℕ) (mode : Mode) (id : ObjectId) (made : Items) : Type 0 where
   pub frames : List Frame
   pub items : Items
   pub stack : IsStack kind s frames items
@@ -84,7 +84,7 @@ left_inside path rest fs (and_leaf t name mode id) e left = tt
 left_inside path rest fs (and_folder t name items) e left = λ more same.
     left more (e ∙ (ap (λ (r : List ℕ). folder_path fs ++ r) same ∙ sym (append_assoc (folder_path fs) (name ++ 47 ∷ []) more)))
 
-pub reached : (kind : HashKind) (s : Folders) (path rest : List ℕ) (mode : Mode) (id : ObjectId) (made : Items) → Reaches kind s made path rest → PutsRest kind s rest mode id (put (components path) mode id made)
+pub reached : (kind : HashKind) (s : TreeBuilder) (path rest : List ℕ) (mode : Mode) (id : ObjectId) (made : Items) → Reaches kind s made path rest → PutsRest kind s rest mode id (put (components path) mode id made)
 reached kind s path rest mode id made (fs, t, h, w, (left, e)) = record {
   frames = fs;
   items = t;
@@ -94,7 +94,7 @@ reached kind s path rest mode id made (fs, t, h, w, (left, e)) = record {
 }
 
 -- A folder is opened.
-pub opened : (kind : HashKind) (old new : Folders) (rest name more : List ℕ) (mode : Mode) (id : ObjectId) (made : Items) → PutsRest kind old rest mode id made
+pub opened : (kind : HashKind) (old new : TreeBuilder) (rest name more : List ℕ) (mode : Mode) (id : ObjectId) (made : Items) → PutsRest kind old rest mode id made
     → All (λ b. is_slash b ≡ false) name → rest ≡ name ++ 47 ∷ more
     → ((fs : List Frame) (t : Items) → IsStack kind old fs t → IsStack kind new (record { before = t; name = name } ∷ fs) no_items) → PutsRest kind new more mode id made
 opened kind old new rest name more mode id made h plain e after = record {
@@ -106,7 +106,7 @@ opened kind old new rest name more mode id made h plain e after = record {
 }
 
 -- Without a slash the rest is the leaf's name.
-pub leaf_put : (kind : HashKind) (old new : Folders) (rest : List ℕ) (mode : Mode) (id : ObjectId) (made : Items) (r : Result (Unit {0}) AllocError) → PutsRest kind old rest mode id made → components rest ≡ rest ∷ []
+pub leaf_put : (kind : HashKind) (old new : TreeBuilder) (rest : List ℕ) (mode : Mode) (id : ObjectId) (made : Items) (r : Result (Unit {0}) AllocError) → PutsRest kind old rest mode id made → components rest ≡ rest ∷ []
     → new.path.items ≡ old.path.items → new.marks.items ≡ old.marks.items → OnOk r (new.bytes.items ≡ old.bytes.items ++ item_bytes mode rest id) → OnOk r (Makes kind new made HasNoLastFolder)
 leaf_put kind old new rest mode id made (Err u) h one p m b = tt
 leaf_put kind old new rest mode id made (Ok u) h one p m b = (
@@ -124,11 +124,11 @@ leaf_put kind old new rest mode id made (Ok u) h one p m b = (
 
 -- ---- closing all folders
 
-pub closed_last : (kind : HashKind) (old new : Folders) (made : Items) (fs : List Frame) (t : Items) → IsStack kind old fs t → all_items fs t ≡ made → 0 < length old.marks.items
+pub closed_last : (kind : HashKind) (old new : TreeBuilder) (made : Items) (fs : List Frame) (t : Items) → IsStack kind old fs t → all_items fs t ≡ made → 0 < length old.marks.items
     → ((f : Frame) (gs : List Frame) (u : Items) → IsStack kind old (f ∷ gs) u → IsStack kind new gs (and_folder f.before f.name u)) → Makes kind new made (λ gs u. Unit {0})
 closed_last kind old new made [] t h w some closed = absurd (omega (arith, ap length h.marks))
 closed_last kind old new made (f ∷ fs) t h w some closed = (fs, and_folder f.before f.name t, closed f fs t h, w, tt)
 
-pub all_closed : (kind : HashKind) (s : Folders) (made : Items) (fs : List Frame) (t : Items) → IsStack kind s fs t → all_items fs t ≡ made → length s.marks.items ≡ 0 → tree_object_id kind s.bytes.items ≡ tree_id_of kind made
+pub all_closed : (kind : HashKind) (s : TreeBuilder) (made : Items) (fs : List Frame) (t : Items) → IsStack kind s fs t → all_items fs t ≡ made → length s.marks.items ≡ 0 → tree_object_id kind s.bytes.items ≡ tree_id_of kind made
 all_closed kind s made [] t h w none = ap (tree_object_id kind) h.bytes ∙ ap (tree_id_of kind) w
 all_closed kind s made (f ∷ fs) t h w none = absurd (omega (arith, ap length h.marks, length-append (marks_of kind fs) (mark_of kind f fs ∷ [])))

@@ -1,2 +1,2 @@
 pub mod Trees
-pub mod Open
+pub mod OpenFolders

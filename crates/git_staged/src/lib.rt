@@ -1,11 +1,11 @@
 //! What is staged: the id of the tree that an index makes, as `git write-tree` prints it.
 //!
-//! Read `write_tree` first, which goes over the entries. `folders` has the folders that are open at an entry, and `item`
-//! the bytes and the id of a tree. `error` is why an index makes no tree.
+//! Read `write_tree` first, which goes over the entries. `builder` puts each into the tree, and `item` makes the tree's
+//! bytes and its id. `error` is why an index makes no tree.
 #![tactic(auto)]
 
+mod builder;
 pub mod error;
-mod folders;
 mod item;
 #[cfg(test)]
 mod tests;

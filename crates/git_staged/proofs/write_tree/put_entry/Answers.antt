@@ -2,7 +2,7 @@ use Rattle.std.proofs.Common.{◌≡◌, ℕ, List, Bool, false, cond, OnOk, sym
 use Rattle.status_index.specs.FlagBits.{has_bits}
 use Rattle.status_index.specs.declared.entry.TheConstants.Flags.{INTENT_TO_ADD}
 use Rattle.git_staged.specs.Trees.{Items, components, path_of_item, put}
-use Rattle.git_staged.specs.Open.{HasNoLastFolder, Makes}
+use Rattle.git_staged.specs.OpenFolders.{HasNoLastFolder, Makes}
 use Rattle.git_staged.proofs.write_tree.put_entry.Goals as goal
 
 pub returns : goal.returns

@@ -1,9 +1,9 @@
-use Rattle.std.proofs.Common.{◌≡◌, Bool, true, false, Ok, Err, Result, ap, refl, sym, ◌∙◌}
+use Rattle.std.proofs.Common.{◌≡◌, false, Err, Result, ap, refl, sym, ◌∙◌}
 use Rattle.std.proofs.lemmas.Result.{err_from_is_err_and}
 use Rattle.status_index.specs.States.{backing_of, entries_of, index_of}
 use Rattle.status_index.specs.declared.id.ObjectId.{ObjectId}
 use Rattle.git_staged.specs.declared.error.TreeError.{TreeError}
-use Rattle.git_staged.specs.declared.error.TreeError.TheVariants.{Conflict, Memory}
+use Rattle.git_staged.specs.declared.error.TreeError.TheVariants.{Memory}
 use Rattle.git_staged.specs.Trees.{has_conflict}
 use Rattle.git_staged.proofs.Entries.{conflict_in}
 use Rattle.git_staged.proofs.write_tree.tree_id.Goals as goal
@@ -14,8 +14,8 @@ returns-then-has_conflict-clause-conflict c =
     let seen = conflict_in (backing_of index) (entries_of index) c.entries.result.now c.has_conflict.result c.entries.ensures.value c.has_conflict.ensures in
     (λ e. sym seen ∙ c.if-has_conflict.true, λ h. refl)
 
-pub returns-in_err-id-clause-conflict : goal.returns-in_err-id-clause-conflict
-returns-in_err-id-clause-conflict c =
+pub returns-in_err-id_of_entries-clause-conflict : goal.returns-in_err-id_of_entries-clause-conflict
+returns-in_err-id_of_entries-clause-conflict c =
     let index = c.args.index.now in
     let seen = conflict_in (backing_of index) (entries_of index) c.entries.result.now c.has_conflict.result c.entries.ensures.value c.has_conflict.ensures in
     let none : has_conflict (index_of index) ≡ false = sym seen ∙ c.if-has_conflict.false in

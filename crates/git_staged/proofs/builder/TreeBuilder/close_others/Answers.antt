@@ -1,8 +1,8 @@
-use Rattle.std.proofs.Common.{◌≡◌, ◌≢◌, ℕ, List, ◌++◌, Some, None, sym, ap, ◌∙◌, nat_eq}
+use Rattle.std.proofs.Common.{ℕ, List, ◌++◌, Some, None, sym, ap, ◌∙◌, nat_eq}
 use Rattle.std.proofs.lemmas.Bool.Decides.{Decides-eqb}
 use Rattle.std.proofs.lemmas.Slice.Eq.{strip_prefix_is}
 use Rattle.git_staged.proofs.Stack.{some_open, closed_other}
-use Rattle.git_staged.proofs.folders.Folders.close_others.Goals as goal
+use Rattle.git_staged.proofs.builder.TreeBuilder.close_others.Goals as goal
 
 pub folders-init : goal.folders-init
 folders-init c = λ t m. (m.0, m.1, m.2, m.3, m.4 c.args.path.now)

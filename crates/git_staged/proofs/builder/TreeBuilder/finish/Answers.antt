@@ -1,7 +1,7 @@
 use Rattle.std.proofs.Common.{ap, ◌∙◌, rules}
 use Rattle.git_staged.specs.Trees.{tree_object_id}
 use Rattle.git_staged.proofs.Stack.{closed_last, all_closed}
-use Rattle.git_staged.proofs.folders.Folders.finish.Goals as goal
+use Rattle.git_staged.proofs.builder.TreeBuilder.finish.Goals as goal
 
 pub close-requires : goal.close-requires
 close-requires c =

@@ -1,7 +1,7 @@
 use Rattle.std.proofs.Common.{refl}
 use Rattle.git_staged.specs.Trees.{components, put}
 use Rattle.git_staged.proofs.Stack.{reached, opened, leaf_put}
-use Rattle.git_staged.proofs.folders.Folders.put.Goals as goal
+use Rattle.git_staged.proofs.builder.TreeBuilder.put.Goals as goal
 
 pub components-init : goal.components-init
 components-init c = λ t m. reached c.args.kind c.close_others.new.self c.args.path.now c.in_ok-rest.rest.now c.args.mode c.args.id t (c.in_ok-rest.ensures t m)

@@ -1,7 +1,7 @@
 use Rattle.std.proofs.Common.{◌+◌, List, ℕ, ◌∷◌, ◌++◌, take, sym, ap, ◌∙◌}
 use Rattle.std.proofs.lemmas.List.{take_rest}
 use Rattle.git_staged.proofs.Puts.{first_name, one_component}
-use Rattle.git_staged.proofs.folders.split_first.Goals as goal
+use Rattle.git_staged.proofs.builder.split_first.Goals as goal
 
 pub returns-in-Some : goal.returns-in-Some
 returns-in-Some c =

@@ -1,12 +1,12 @@
-//! The trees of the folders that are open while the entries of an index are put into its tree.
+//! A tree that is made leaf by leaf, in the order of an index.
 //!
-//! The folders that contain the last item are open: later items may still come into them. Their bytes are in one
-//! buffer, each folder's after the start of its own item in its parent. To close the innermost folder, its bytes are
-//! replaced by their id.
+//! The folders that contain the last leaf are open, since the next leaf may be in them too. The bytes of all open folders
+//! are in one buffer: those of a folder are after the start of its own item in its parent. If a folder is closed, its id
+//! replaces its bytes.
 
 ghost use Rattle.std.specs.Prelude.{◌≡◌, ◌∷◌, [], List, ℕ, ◌<◌, length, position, IfOk, MatchOption, OnOk};
 ghost use Rattle.git_staged.specs.Trees.{Items, and_folder, components, is_slash, no_items, put, tree_id_of};
-ghost use Rattle.git_staged.specs.Open.{Frame, HasNoLastFolder, IsFirst, IsName, IsStack, Makes, Reaches};
+ghost use Rattle.git_staged.specs.OpenFolders.{Frame, HasNoLastFolder, IsFirst, IsName, IsStack, Makes, Reaches};
 
 use crate::item::{id_of_tree, push_item, push_start};
 use status_index::{HashKind, Mode, ObjectId};
@@ -17,14 +17,14 @@ use std::alloc::{AllocError, Global};
 struct Mark {
     /// How many bytes its parent's path has.
     path_len: usize,
-    /// Where the bytes of its tree begin.
+    /// Where its own bytes begin.
     start: usize,
 }
 
-/// A tree whose last folders are open.
+/// The tree of the leaves that were put so far.
 #[derive(Drop)]
-pub(crate) struct Folders {
-    /// The bytes of the tree, and of each open folder's tree.
+pub(crate) struct TreeBuilder {
+    /// The bytes of the tree and of its open folders, the outermost first.
     bytes: Vec<u8>,
     /// The path of the innermost open folder. A slash follows each component.
     path: Vec<u8>,
@@ -32,19 +32,19 @@ pub(crate) struct Folders {
     marks: Vec<Mark>,
 }
 
-impl Folders {
-    /// Returns the tree without items. Allocates no memory.
-    pub(crate) fn new(alloc: Global) -> Folders
+impl TreeBuilder {
+    /// Returns a tree without leaves. Allocates no memory.
+    pub(crate) fn new(alloc: Global) -> TreeBuilder
         ensures { (kind : HashKind) → Makes kind result no_items HasNoLastFolder }
     {
-        Folders {
+        TreeBuilder {
             bytes: Vec::new(alloc),
             path: Vec::new(alloc),
             marks: Vec::new(alloc),
         }
     }
 
-    /// Puts a leaf below a path, at the end of the tree.
+    /// Puts a leaf after the others, below its path.
     ///
     /// # Errors
     /// Out of memory. Then the tree can't be used any more.
@@ -66,7 +66,7 @@ impl Folders {
         push_item(&mut self.bytes, mode, rest, id)
     }
 
-    /// Closes the folders that don't contain this path. Returns the path in the innermost folder that is left open.
+    /// Closes the folders that don't contain this path. Returns its rest in the innermost folder that stays open.
     fn close_others<'p>(&mut self, kind: HashKind, path: &'p [u8]) -> Result<&'p [u8], AllocError>
         requires { (t : Items) × Makes kind self.old t HasNoLastFolder }
         ensures { (t : Items) → Makes kind self.old t HasNoLastFolder → IfOk result (λ rest. Reaches kind self.new t path.entry.now rest.now) }

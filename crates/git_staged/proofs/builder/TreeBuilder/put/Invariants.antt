@@ -1,8 +1,8 @@
 use Rattle.std.proofs.Common.{length}
 use Rattle.git_staged.specs.Trees.{Items, components, put}
-use Rattle.git_staged.specs.Open.{HasNoLastFolder, Makes}
+use Rattle.git_staged.specs.OpenFolders.{HasNoLastFolder, Makes}
 use Rattle.git_staged.proofs.Stack.{PutsRest}
-use Rattle.git_staged.proofs.folders.Folders.put.Given as goal
+use Rattle.git_staged.proofs.builder.TreeBuilder.put.Given as goal
 
 -- the folders passed so far are open, and the rest is to be put into the innermost one
 abbrev pub invariant-components : goal.invariant-components

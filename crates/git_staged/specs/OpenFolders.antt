@@ -2,10 +2,9 @@
 use Rattle.std.specs.Prelude.{◌≡◌, ◌≢◌, ℕ, List, [], ◌∷◌, ◌++◌, length, false, All, ⊤}
 use Rattle.std.specs.List.{AllByRecursion}
 use Rattle.status_index.specs.declared.id.HashKind.{HashKind}
-use Rattle.status_index.specs.declared.mode.Mode.{Mode}
 use Rattle.status_index.specs.declared.mode.Mode.TheVariants.{Dir}
-use Rattle.git_staged.specs.declared.folders.Folders.{Folders}
-use Rattle.git_staged.specs.declared.folders.Mark.{Mark}
+use Rattle.git_staged.specs.declared.builder.TreeBuilder.{TreeBuilder}
+use Rattle.git_staged.specs.declared.builder.Mark.{Mark}
 use Rattle.git_staged.specs.Trees.{Items, no_items, and_leaf, and_folder, is_slash, item_start, tree_bytes}
 
 -- An open folder: the items before it in its parent, and its name. Lists of them begin with the innermost one.
@@ -45,14 +44,14 @@ abbrev pub HasName : Frame → Type 0
 HasName f = IsName f.name
 
 -- The open folders are these, and the innermost one has these items.
-pub record IsStack (kind : HashKind) (s : Folders) (fs : List Frame) (t : Items) : Type 0 where
+pub record IsStack (kind : HashKind) (s : TreeBuilder) (fs : List Frame) (t : Items) : Type 0 where
   pub bytes : s.bytes.items ≡ open_bytes kind fs ++ tree_bytes kind t
   pub path : s.path.items ≡ folder_path fs
   pub marks : s.marks.items ≡ marks_of kind fs
   pub named : AllByRecursion HasName fs
 
 -- These are all items of the tree. The predicate holds of the open folders and of the innermost one's items.
-abbrev pub Makes : HashKind → Folders → Items → (List Frame → Items → Type 0) → Type 0
+abbrev pub Makes : HashKind → TreeBuilder → Items → (List Frame → Items → Type 0) → Type 0
 Makes kind s made P = (fs : List Frame) × (t : Items) × IsStack kind s fs t × (all_items fs t ≡ made) × P fs t
 
 -- If the last item is a folder, then it doesn't contain this path.
@@ -66,5 +65,5 @@ abbrev pub HasNoLastFolder : List Frame → Items → Type 0
 HasNoLastFolder fs t = (path : List ℕ) → IsAfterLast path fs t
 
 -- The path is in the innermost open folder, where it is `rest`, and it isn't in the last item there.
-abbrev pub Reaches : HashKind → Folders → Items → List ℕ → List ℕ → Type 0
+abbrev pub Reaches : HashKind → TreeBuilder → Items → List ℕ → List ℕ → Type 0
 Reaches kind s made path rest = Makes kind s made (λ fs t. IsAfterLast path fs t × (path ≡ folder_path fs ++ rest))

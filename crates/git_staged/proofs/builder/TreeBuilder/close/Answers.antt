@@ -1,7 +1,7 @@
-use Rattle.std.proofs.Common.{◌≡◌, ◌-◌, List, length, take, drop, ap, ◌∙◌, arith}
+use Rattle.std.proofs.Common.{◌-◌, length, take, drop, ap, ◌∙◌, arith}
 use Rattle.std.proofs.lemmas.List.{take_rest}
 use Rattle.git_staged.proofs.Stack.{start_within, closed_folder}
-use Rattle.git_staged.proofs.folders.Folders.close.Goals as goal
+use Rattle.git_staged.proofs.builder.TreeBuilder.close.Goals as goal
 
 pub slice_bounds-id_of_tree-count : goal.slice_bounds-id_of_tree-count
 slice_bounds-id_of_tree-count c =

@@ -1,7 +1,7 @@
 use Rattle.std.proofs.Common.{length}
 use Rattle.git_staged.specs.Trees.{Items}
-use Rattle.git_staged.specs.Open.{IsAfterLast, HasNoLastFolder, Makes}
-use Rattle.git_staged.proofs.folders.Folders.close_others.Given as goal
+use Rattle.git_staged.specs.OpenFolders.{IsAfterLast, HasNoLastFolder, Makes}
+use Rattle.git_staged.proofs.builder.TreeBuilder.close_others.Given as goal
 
 -- closing folders changes no tree, and the last folder that was closed doesn't contain the path
 abbrev pub invariant-folders : goal.invariant-folders

@@ -1,7 +1,7 @@
 use Rattle.std.proofs.Common.{length}
 use Rattle.git_staged.specs.Trees.{Items}
-use Rattle.git_staged.specs.Open.{HasNoLastFolder, Makes}
-use Rattle.git_staged.proofs.folders.Folders.finish.Given as goal
+use Rattle.git_staged.specs.OpenFolders.{HasNoLastFolder, Makes}
+use Rattle.git_staged.proofs.builder.TreeBuilder.finish.Given as goal
 
 -- closing folders changes no tree
 abbrev pub invariant-loop-self : goal.invariant-loop-self
