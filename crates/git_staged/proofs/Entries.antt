@@ -1,4 +1,4 @@
--- What the entries of an index make.
+-- The tree of an index's entries.
 use Rattle.std.proofs.Common.{◌≡◌, ℕ, suc, ◌+◌, ◌==◌, Bool, not, List, [], ◌∷◌, ◌++◌, map, take, refl, sym, ◌∙◌, ap, add-one, ◌||◌}
 use Rattle.std.specs.List.{list_any}
 use Rattle.std.proofs.lemmas.List.{map-append}

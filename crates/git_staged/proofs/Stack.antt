@@ -1,4 +1,4 @@
--- What the open folders have, after each step.
+-- The open folders after each step.
 use Rattle.std.proofs.Common.{◌≡◌, ◌≢◌, ℕ, ◌<◌, ◌≤◌, false, List, [], ◌∷◌, ◌++◌, length, take, drop, Result, Ok, Err, OnOk, All, refl, sym, ◌∙◌, ap, arith, append_assoc, if◌then◌else◌}
 use Rattle.std.specs.Result.{is_ok}
 use Rattle.std.specs.declared.alloc.AllocError.{AllocError}
@@ -15,7 +15,7 @@ use Rattle.git_staged.specs.Trees.{Items, no_items, and_leaf, and_folder, is_sla
 use Rattle.git_staged.specs.OpenFolders.{Frame, all_items, folder_path, open_bytes, marks_of, IsStack, IsAfterLast, HasNoLastFolder, Makes, Reaches}
 use Rattle.git_staged.proofs.Puts.{put_in_open, put_new}
 
--- Where the innermost folder begins.
+-- The mark of the innermost folder.
 abbrev pub mark_of : HashKind → Frame → List Frame → Mark
 mark_of kind f fs = record { path_len = length (folder_path fs); start = length (open_bytes kind (f ∷ fs)) }
 

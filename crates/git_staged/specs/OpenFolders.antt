@@ -27,7 +27,7 @@ abbrev pub open_bytes : HashKind → List Frame → List ℕ
 open_bytes kind [] = []
 open_bytes kind (f ∷ fs) = open_bytes kind fs ++ tree_bytes kind f.before ++ item_start Dir f.name
 
--- Where each open folder begins, the outermost first.
+-- The marks of the open folders, the outermost first.
 abbrev pub marks_of : HashKind → List Frame → List Mark
 marks_of kind [] = []
 marks_of kind (f ∷ fs) = marks_of kind fs ++ record { path_len = length (folder_path fs); start = length (open_bytes kind (f ∷ fs)) } ∷ []
@@ -64,6 +64,6 @@ IsAfterLast path fs (and_folder t name items) = (rest : List ℕ) → path ≢ f
 abbrev pub HasNoLastFolder : List Frame → Items → Type 0
 HasNoLastFolder fs t = (path : List ℕ) → IsAfterLast path fs t
 
--- The path is in the innermost open folder, where it is `rest`, and it isn't in the last item there.
+-- The path is in the innermost open folder, with this rest, and it isn't in the last item there.
 abbrev pub Reaches : HashKind → TreeBuilder → Items → List ℕ → List ℕ → Type 0
 Reaches kind s made path rest = Makes kind s made (λ fs t. IsAfterLast path fs t × (path ≡ folder_path fs ++ rest))

@@ -1,8 +1,8 @@
 //! A tree that is made leaf by leaf, in the order of an index.
 //!
-//! The folders that contain the last leaf are open, since the next leaf may be in them too. The bytes of all open folders
-//! are in one buffer: those of a folder are after the start of its own item in its parent. If a folder is closed, its id
-//! replaces its bytes.
+//! The folders that contain the last leaf are open, since the next leaf may be in them too. The bytes of all open
+//! folders are in one buffer: those of a folder follow the start of its own item in its parent. When a folder is
+//! closed, its id replaces its bytes.
 
 ghost use Rattle.std.specs.Prelude.{◌≡◌, ◌∷◌, [], List, ℕ, ◌<◌, length, position, IfOk, MatchOption, OnOk};
 ghost use Rattle.git_staged.specs.Trees.{Items, and_folder, components, is_slash, no_items, put, tree_id_of};
@@ -12,12 +12,12 @@ use crate::item::{id_of_tree, push_item, push_start};
 use status_index::{HashKind, Mode, ObjectId};
 use std::alloc::{AllocError, Global};
 
-/// Where an open folder begins.
+/// The beginning of an open folder.
 #[derive(Clone, Copy)]
 struct Mark {
-    /// How many bytes its parent's path has.
+    /// The length of its parent's path.
     path_len: usize,
-    /// Where its own bytes begin.
+    /// The position of its own bytes in the buffer.
     start: usize,
 }
 

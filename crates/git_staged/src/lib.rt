@@ -1,4 +1,4 @@
-//! What is staged: the id of the tree that an index makes, as `git write-tree` prints it.
+//! The id of the tree that an index makes, as `git write-tree` prints it.
 //!
 //! Read `write_tree` first, which goes over the entries. `builder` puts each into the tree, and `item` makes the tree's
 //! bytes and its id. `error` is why an index makes no tree.

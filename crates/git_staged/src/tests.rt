@@ -70,8 +70,8 @@ fn index(alloc: Global, rows: &[Row<'_>]) -> Result<State, IndexError> {
     Ok(index)
 }
 
-/// Returns an index whose names are ordered otherwise than those of its folders, with two entries of `git add -N`. One of
-/// these is alone in its folders.
+/// Returns an index with names like `a-b` and `a0` around the folder `a`, and two entries of `git add -N`. One of these
+/// is alone in its folders.
 fn named(alloc: Global, kind: HashKind) -> Result<State, IndexError> {
     let (one, two, three) = (
         repeated(kind, 0x11),

@@ -17,9 +17,9 @@ use std::alloc::{AllocError, Global};
 /// Returns the id of the tree that an index makes, as `git write-tree` prints it. An entry of `git add -N` isn't in the
 /// tree, and neither is a folder that has only such entries. A folder of a sparse index is in it by its own id.
 ///
-/// `kind` is the repository's kind of digest. The ids of an index are all of one kind. If that isn't `kind`, their bytes
-/// are put into the tree all the same; git has no such tree. No object is read, and git's other checks aren't made: the
-/// index may have both `a` and `a/b`.
+/// `kind` is the repository's kind of digest. The ids of an index are all of one kind. If that isn't `kind`, their
+/// bytes are put into the tree all the same, though git has no such tree. No object is read, and git's other checks
+/// aren't made: the index may have both `a` and `a/b`.
 ///
 /// # Errors
 /// Returns `Conflict` exactly if an entry has a stage other than 0, and otherwise `Memory` if an allocation fails.
