@@ -1,0 +1,21 @@
+use Rattle.std.proofs.Common.{◌-◌, length, take, drop, ap, ◌∙◌, arith}
+use Rattle.std.proofs.lemmas.List.{take_rest}
+use Rattle.git_staged.proofs.Stack.{start_within, closed_folder}
+use Rattle.git_staged.proofs.builder.TreeBuilder.close.Goals as goal
+
+pub slice_bounds-id_of_tree-count : goal.slice_bounds-id_of_tree-count
+slice_bounds-id_of_tree-count c =
+    let (fs, t, stack) = c.requires in
+    let within = start_within c.args.kind c.args.self.now fs t c.pop.new.self.items c.in-Some.mark stack c.in-Some.ensures.items in
+    omega (arith, within, ap length c.deref.ensures.value)
+
+pub slice_bounds-id_of_tree-start : goal.slice_bounds-id_of_tree-start
+slice_bounds-id_of_tree-start c = slice_bounds-id_of_tree-count c
+
+pub returns-clause-closed : goal.returns-clause-closed
+returns-clause-closed c = λ f fs t stack.
+    let start = c.in-Some.mark.start in
+    let bytes = c.deref.result.now in
+    closed_folder c.args.kind c.args.self.now (record { bytes = c.extend_from_slice.new.self; path = c.truncate-2.new.self; marks = c.pop.new.self }) f fs t c.in-Some.mark c.id_of_tree-id.result
+    (take (length bytes - start) (drop start bytes)) c.extend_from_slice.result stack c.in-Some.ensures.items (take_rest bytes start ∙ ap (drop start) c.deref.ensures.value) c.id_of_tree-id.ensures
+    (rw (c.truncate.ensures.items, c.as_bytes.ensures) at c.extend_from_slice.ensures.items) c.truncate-2.ensures.items
