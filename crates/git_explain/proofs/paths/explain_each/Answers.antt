@@ -10,10 +10,10 @@ returns g c =
     let read = c.in_ok-attributes.ensures ∙ ap (λ (v : List AttributeFile). attributes_of (map file_view v)) c.deref.ensures.value in
     all_explained _ _ c.args.index.now (record {
       files = map file_view c.in_ok-files.files.items;
-      found = c.in_ok-files.ensures;
+      found = record { inner = map file_view c.in_ok-within.within.items; found = rw (c.new.ensures.worktree, c.new.ensures.index) at c.in_ok-within.ensures; others = c.in_ok-files.ensures };
       filter = _;
       attributes = read;
       auto = refl;
       entries = refl;
       kind = refl;
-    }) _ _ refl refl (adds_anyhow _ _ _ _ _ _ _ _ _ _ (rw c.new.ensures at c.in_ok-add_entries.ensures))
+    }) _ _ refl refl (adds_anyhow _ _ _ _ _ _ _ _ _ _ (rw c.new-2.ensures at c.in_ok-add_entries.ensures))
