@@ -30,6 +30,10 @@ use std::sync::Wait;
 use std::sync::atomic::{AtomicBool, Ordering};
 use std::thread::Threads;
 
+/// The number of entries of a piece of work if the first difference ends the call. Each thread has at most 8 pieces before
+/// the call sees that it may end: some 2,000 entries with the usual 4 threads.
+const SMALL_CHUNK: usize = 64;
+
 /// The exit status of a failure.
 const FAILED: u8 = 2;
 
@@ -339,7 +343,7 @@ fn settings_of(repository: &Repository, request: &Request<'_>, timestamp: Moment
             use_stdev: false,
         },
         fscache: false,
-        chunk_size: 0,
+        chunk_size: if stops { SMALL_CHUNK } else { 0 },
     };
     Settings {
         kind: found.kind,
