@@ -32,15 +32,19 @@ impl<R: AllocGlobal + Drop> Folder<R> {
         Ok(Folder { rt, front })
     }
 
-    /// Writes the path of a node of the folder into a buffer, as the system takes it. Returns that path.
+    /// Returns the path of a node of the folder, as the system takes it. It is written into the buffer, unless the node's own
+    /// path is the whole of it.
     ///
     /// # Errors
     /// The path isn't UTF-8, or out of memory.
     pub fn path_of<'b>(
         &self,
-        path: BStr<'_>,
+        path: BStr<'b>,
         buffer: &'b mut PathBuffer,
     ) -> Result<&'b str, Fault> {
+        if self.front.is_empty() {
+            return text_of(path.as_bytes());
+        }
         buffer.write(self.front.as_str(), path)
     }
 }
@@ -75,6 +79,14 @@ impl PathBuffer {
             self.long.extend_from_slice(path)?;
             self.long.as_slice()
         };
-        str::from_utf8(whole).map_err(|_| Fault::IllformedUtf8)
+        text_of(whole)
     }
+}
+
+/// Returns a path as text.
+///
+/// # Errors
+/// It isn't UTF-8.
+fn text_of(path: &[u8]) -> Result<&str, Fault> {
+    str::from_utf8(path).map_err(|_| Fault::IllformedUtf8)
 }

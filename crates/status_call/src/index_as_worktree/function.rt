@@ -29,8 +29,9 @@ use std::thread::Threads;
 /// The work is shared by workers, at most as many as the options' thread limit allows. One of them runs in the caller's
 /// thread, each other one in a thread that has ended when the call returns. If the context's interrupt flag is seen
 /// set, the call ends early, and the outcome reports that. It then counts the first of the considered entries, whose
-/// records were reported. Workers check the flag before each entry. The collector is called after each round of at most
-/// eight pieces a worker, so a flag that it sets ends the call after that round, with one worker too.
+/// records were reported. Workers check the flag before each entry. The collector is called after each round, so a flag
+/// that it sets ends the call after that round, with one worker too. The first round has at most eight pieces a worker, and
+/// each later one at most twice as many as the one before.
 ///
 /// # Errors
 /// The fault of the first entry that has one, after the records before it were reported. A refused thread or out of

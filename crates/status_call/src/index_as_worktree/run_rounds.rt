@@ -1,6 +1,6 @@
 //! The considered entries, processed round by round, and reported in order.
 
-ghost use Rattle.std.specs.Prelude.{◌≤◌, length, ◌≡◌, ◌+◌, ◌-◌, ◌*◌, ◌<◌, vec_len, IfOk};
+ghost use Rattle.std.specs.Prelude.{◌≤◌, length, ◌≡◌, ◌+◌, ◌-◌, ◌*◌, ◌^◌, ◌<◌, vec_len, IfOk};
 ghost use Rattle.status_call.specs.Rounds.{AreBounds, bound, last_bound, ArePieces};
 ghost use Rattle.status_call.specs.Considered.{part_entries};
 ghost use Rattle.status_call.specs.Runs.{IsRoundsReport};
@@ -17,11 +17,18 @@ use std::alloc::{AllocError, Global};
 use std::sync::Wait;
 use std::thread::Threads;
 
-/// The greatest number of pieces of a round for each worker.
-const PIECES_OF_A_WORKER: usize = 8;
+/// The greatest number of pieces of the first round for each worker.
+const FIRST_PIECES: usize = 8;
+
+/// From how many entries for each worker on the rounds don't grow any more.
+const MOST_ENTRIES: usize = 16_000;
+
+/// From how many pieces on the rounds don't grow any more.
+const MOST_PIECES: usize = 0x1_0000;
 
 /// Processes the considered entries in rounds of pieces, and reports the pieces' findings to the collector in index
-/// order. Ends early if the interrupt flag is set.
+/// order. Ends early if the interrupt flag is set. The first round is small, so that a flag that the collector sets ends
+/// the call early; each later one is twice as large, since at the end of a round workers wait for each other.
 ///
 /// # Errors
 /// The first fault, after the records before it were reported. A refused thread; then no record of its round was
@@ -47,6 +54,7 @@ where
 {
     let mut totals = Totals::none();
     let mut at = 0;
+    let mut most_pieces = workers.count * FIRST_PIECES;
     while at < considered.len() {
         if is_set(workers.interrupt) {
             return Ok(Progress {
@@ -54,7 +62,6 @@ where
                 interrupted: true,
             });
         }
-        let most_pieces = workers.count * PIECES_OF_A_WORKER;
         let Ok(bounds) = round_bounds(workers.alloc, considered, at, piece_len, most_pieces) else {
             return Err(Error::Memory);
         };
@@ -72,11 +79,25 @@ where
             });
         }
         at = bounds[bounds.len() - 1];
+        most_pieces = most_after(most_pieces, piece_len, workers.count * MOST_ENTRIES);
     }
     Ok(Progress {
         totals,
         interrupted: false,
     })
+}
+
+/// Returns how many pieces the round after one of so many pieces may have: twice as many, until a round has so many
+/// entries.
+fn most_after(pieces: usize, piece_len: usize, most_entries: usize) -> usize
+    ensures no_less { pieces ≤ result }
+    ensures few { pieces ≤ 2 ^ 18 → result ≤ 2 ^ 18 }
+{
+    if pieces < MOST_PIECES && pieces.saturating_mul(piece_len) < most_entries {
+        2 * pieces
+    } else {
+        pieces
+    }
 }
 
 /// Returns the bounds of at most `most` pieces from position `from` on: the start of the first, and the end of each.

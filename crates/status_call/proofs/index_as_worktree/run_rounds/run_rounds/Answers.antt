@@ -10,11 +10,13 @@ loop-at-init g c = record {
   way = rw c.none-totals.ensures (way_none _ _ _ _ _ _ (λ _. nothing_seen) (part_is_index c.args.considered.now) _ (omega arith));
   cut = λ k d h. absurd (omega arith);
   inside = omega arith;
+  some = omega (arith, c.args.workers.now.some);
+  few = omega (arith, c.args.workers.now.few);
 }
 
 pub run_round-requires : goal.run_round-requires
 run_round-requires g c κs =
-    let few : length c.as_slice-bounds.result.now ≤ 2 ^ 20 = omega (arith, ap length c.as_slice-bounds.ensures.value, c.in-Ok.ensures.few, c.in-Ok.bounds.ok.0, c.args.workers.now.few) in (
+    let few : length c.as_slice-bounds.result.now ≤ 2 ^ 20 = omega (arith, ap length c.as_slice-bounds.ensures.value, c.in-Ok.ensures.few, c.in-Ok.bounds.ok.0, c.loop-at.invariant.few) in (
       search rules,
       (
         search rules,
@@ -68,4 +70,6 @@ loop-at-preserved g c =
       way = more;
       cut = rw slice (is.cuts (length items - 1) 0 last);
       inside = rw slice (omega (arith, is.inside (length items - 1) 0 last));
+      some = omega (arith, c.loop-at.invariant.some, c.most_after-most_pieces.ensures.no_less);
+      few = c.most_after-most_pieces.ensures.few c.loop-at.invariant.few;
     })

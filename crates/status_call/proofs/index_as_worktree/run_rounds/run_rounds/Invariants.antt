@@ -1,4 +1,4 @@
-use Rattle.std.proofs.Common.{◌≤◌, ◌-◌, length}
+use Rattle.std.proofs.Common.{◌≤◌, ◌<◌, ◌-◌, ◌^◌, length}
 use Rattle.status_call.specs.Pieces.{IsCut}
 use Rattle.status_call.specs.Considered.{part_entries}
 use Rattle.status_call.specs.Runs.{IsFaithfulTo}
@@ -12,6 +12,8 @@ invariant-loop-at g l =
       way : IsWorkSoFar (g.D.Decide.query l.decider) (g.D.Decide.allows l.decider) l.considered.start (part_entries l.considered) 0 (IsFaithfulTo l.considered) l.at l.totals (visits l.initial.collector) (visits l.collector);
       cut : IsCut (part_entries l.considered) l.at;
       inside : l.at ≤ length (part_entries l.considered);
+      some : 0 < l.most_pieces;
+      few : l.most_pieces ≤ 2 ^ 18;
     }
 
 abbrev pub decreases-loop-at : goal.decreases-loop-at
