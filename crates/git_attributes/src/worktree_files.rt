@@ -267,7 +267,12 @@ fn has_named(index: &State) -> bool {
     index
         .entries()
         .iter()
-        .any(|entry| entry.path_in(backing).as_bytes().ends_with(NAME))
+        .any(|entry| is_named(entry.path_in(backing).as_bytes()))
+}
+
+/// Returns whether a path is one of an attribute file. Few others end so.
+fn is_named(path: &[u8]) -> bool {
+    matches!(path, [.., b'e', b's']) && path.ends_with(NAME)
 }
 
 /// Returns the attribute file of a folder, with these bytes.

@@ -138,8 +138,9 @@ impl Exceptions {
         };
         for entry in index.entries() {
             let path = entry.path_in(index.path_backing());
-            if is_compared(entry) && paths.includes(path, entry.mode.is_submodule()) {
-                let is_ignored = entry.mode.is_submodule() && ignored.contains(path);
+            let is_submodule = entry.mode.is_submodule();
+            if !is_plain(entry, path) && is_compared(entry) && paths.includes(path, is_submodule) {
+                let is_ignored = is_submodule && ignored.contains(path);
                 let is_intended = entry.flags.contains(Flags::INTENT_TO_ADD);
                 if str::from_utf8(path.as_bytes()).is_err() {
                     found
@@ -155,6 +156,13 @@ impl Exceptions {
         }
         Ok(found)
     }
+}
+
+/// Returns whether an entry is in no list of exceptions, whatever is selected. Most are, so this is asked first.
+fn is_plain(entry: &Entry, path: BStr<'_>) -> bool {
+    !entry.mode.is_submodule()
+        && !entry.flags.contains(Flags::INTENT_TO_ADD)
+        && path.as_bytes().is_ascii()
 }
 
 /// Returns whether an entry is compared with the worktree: it isn't skipped, and isn't in conflict.

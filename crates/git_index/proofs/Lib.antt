@@ -14,3 +14,4 @@ pub mod Common
 pub mod Written
 pub mod Rewritten
 pub mod FileRead
+pub mod FirstZero

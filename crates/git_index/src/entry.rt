@@ -8,6 +8,7 @@ use crate::checksum::id_len_of;
 use crate::cursor::Cursor;
 use crate::fault::Fault;
 use bitflags::Flags as _;
+use memchr::memchr;
 use status_index::{Flags, HashKind, Mode, ObjectId, Stat, Time};
 
 /// The version in which a path begins as the one before it.
@@ -217,7 +218,7 @@ impl<'a> Cursor<'a> {
 fn nul_of(bytes: &[u8]) -> Option<usize>
     ensures { result ≡ position is_nul bytes.now }
 {
-    bytes.iter().position(|b| *b == 0)
+    memchr(0, bytes)
 }
 
 /// Returns whether all bytes are zero.
