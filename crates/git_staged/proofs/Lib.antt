@@ -1,3 +1,4 @@
 pub mod Puts
 pub mod Stack
 pub mod Entries
+pub mod Changes

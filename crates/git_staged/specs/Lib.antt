@@ -1,2 +1,3 @@
+pub mod Letters
 pub mod Trees
 pub mod OpenFolders

@@ -1,15 +1,17 @@
-//! The id of the tree that an index makes, as `git write-tree` prints it.
+//! What is staged: how an index differs from a commit, and the id of the tree that it makes, as `git write-tree` prints it.
 //!
-//! Read `write_tree` first, which goes over the entries. `builder` puts each into the tree, and `item` makes the tree's
-//! bytes and its id. `error` is why an index makes no tree.
+//! `letters` has the letters of git's first column. `write_tree` goes over the entries of an index; `builder` puts each into
+//! the tree, and `item` makes the tree's bytes and its id. `error` is why an index makes no tree.
 #![tactic(auto)]
 
 mod builder;
 pub mod error;
 mod item;
+pub mod letters;
 #[cfg(test)]
 mod tests;
 mod write_tree;
 
 pub use error::TreeError;
+pub use letters::{Change, Letter, changed_entries, deleted_files};
 pub use write_tree::tree_id;
