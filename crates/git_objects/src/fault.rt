@@ -3,7 +3,7 @@
 ghost use Rattle.std.specs.Prelude.{◌≡◌};
 
 use status_index::ObjectId;
-use std::alloc::AllocError;
+use std::alloc::{AllocError, AllocFailed};
 use std::{fmt, io};
 use thiserror::Error;
 
@@ -82,6 +82,16 @@ impl From<AllocError> for ObjectFault {
     ghost from_gives = { λ _ f. f ≡ Memory };
 
     fn from(_error: AllocError) -> ObjectFault {
+        ObjectFault::Memory
+    }
+}
+
+impl<T: Drop> From<AllocFailed<T>> for ObjectFault {
+    ghost use Rattle.git_objects.specs.declared.fault.ObjectFault.TheVariants.{Memory};
+
+    ghost from_gives = { λ _ f. f ≡ Memory };
+
+    fn from(_failed: AllocFailed<T>) -> ObjectFault {
         ObjectFault::Memory
     }
 }

@@ -1,0 +1,53 @@
+//! Loose objects: the header in front of the content.
+
+use crate::fault::ObjectFault;
+use crate::inflate::inflate;
+use crate::object::{Object, ObjectKind};
+use std::alloc::Global;
+
+/// The most bytes of a header: the longest name, a space, the most digits, and a zero byte.
+const HEADER_LEN: usize = 28;
+
+/// The kind and the content that the decompressed bytes of a loose object have.
+#[derive(Clone, Copy)]
+pub(crate) struct Parts<'a> {
+    pub(crate) kind: ObjectKind,
+    pub(crate) content: &'a [u8],
+}
+
+/// Returns the object that a loose object's file has. Its content has at most `limit` bytes.
+///
+/// # Errors
+/// The file isn't what git writes, the content has more bytes, or out of memory.
+pub fn read_loose(alloc: Global, file: &[u8], limit: usize) -> Result<Object, ObjectFault> {
+    let bytes = inflate(alloc, file, limit.saturating_add(HEADER_LEN))?;
+    let parts = split_loose(bytes.as_slice())?;
+    if parts.content.len() > limit {
+        return Err(ObjectFault::TooLarge);
+    }
+    Ok(Object {
+        kind: parts.kind,
+        bytes: parts.content.to_vec(alloc)?,
+    })
+}
+
+/// Splits the decompressed bytes of a loose object into its kind and its content.
+///
+/// # Errors
+/// Returns `BrokenHeader` if they don't begin with a kind, a space, the length of the content in decimal and a zero
+/// byte.
+pub(crate) fn split_loose(bytes: &[u8]) -> Result<Parts<'_>, ObjectFault> {
+    let Some(end) = bytes.iter().position(|byte| *byte == 0) else {
+        return Err(ObjectFault::BrokenHeader);
+    };
+    let (header, content) = (&bytes[..end], &bytes[end + 1..]);
+    let Some(space) = header.iter().position(|byte| *byte == b' ') else {
+        return Err(ObjectFault::BrokenHeader);
+    };
+    let kind = ObjectKind::from_name(&header[..space]).ok_or(ObjectFault::BrokenHeader)?;
+    let mut buffer = itoa::Buffer::new();
+    if &header[space + 1..] != buffer.format(content.len()).as_bytes() {
+        return Err(ObjectFault::BrokenHeader);
+    }
+    Ok(Parts { kind, content })
+}

@@ -1,0 +1,4 @@
+//! Tests of what no contract states.
+
+mod compressed;
+mod objects;
