@@ -1,0 +1,3 @@
+pub mod FirstByte
+pub mod Header
+pub mod Octal

@@ -1,1 +1,3 @@
 pub mod Objects
+pub mod Splits
+pub mod Contents

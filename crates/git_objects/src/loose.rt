@@ -1,8 +1,12 @@
 //! Loose objects: the header in front of the content.
 
+ghost use Rattle.std.specs.Prelude.{◌≡◌, ◌↔◌, IsTrue, IfOk, decimal};
+ghost use Rattle.git_objects.specs.Objects.{object_bytes};
+
 use crate::fault::ObjectFault;
 use crate::inflate::inflate;
 use crate::object::{Object, ObjectKind};
+use crate::split::split_at_byte;
 use std::alloc::Global;
 
 /// The most bytes of a header: the longest name, a space, the most digits, and a zero byte.
@@ -36,18 +40,28 @@ pub fn read_loose(alloc: Global, file: &[u8], limit: usize) -> Result<Object, Ob
 /// # Errors
 /// Returns `BrokenHeader` if they don't begin with a kind, a space, the length of the content in decimal and a zero
 /// byte.
-pub(crate) fn split_loose(bytes: &[u8]) -> Result<Parts<'_>, ObjectFault> {
-    let Some(end) = bytes.iter().position(|byte| *byte == 0) else {
+pub(crate) fn split_loose(bytes: &[u8]) -> Result<Parts<'_>, ObjectFault>
+    ensures { IfOk result (λ parts. object_bytes parts.kind parts.content.now ≡ bytes.entry.now) }
+{
+    let Some((header, content)) = split_at_byte(bytes, 0) else {
         return Err(ObjectFault::BrokenHeader);
     };
-    let (header, content) = (&bytes[..end], &bytes[end + 1..]);
-    let Some(space) = header.iter().position(|byte| *byte == b' ') else {
+    let Some((name, len)) = split_at_byte(header, b' ') else {
         return Err(ObjectFault::BrokenHeader);
     };
-    let kind = ObjectKind::from_name(&header[..space]).ok_or(ObjectFault::BrokenHeader)?;
-    let mut buffer = itoa::Buffer::new();
-    if &header[space + 1..] != buffer.format(content.len()).as_bytes() {
+    let Some(kind) = ObjectKind::from_name(name) else {
+        return Err(ObjectFault::BrokenHeader);
+    };
+    if !is_decimal(len, content.len()) {
         return Err(ObjectFault::BrokenHeader);
     }
     Ok(Parts { kind, content })
+}
+
+/// Returns whether digits are those of a number in decimal, without zeros in front.
+fn is_decimal(digits: &[u8], number: usize) -> bool
+    ensures { IsTrue result ↔ (decimal number ≡ digits.now) }
+{
+    let mut buffer = itoa::Buffer::new();
+    buffer.format(number).as_bytes() == digits
 }
