@@ -2,64 +2,12 @@
 
 ghost use Rattle.std.specs.Prelude.{◌≡◌, ◌≤◌, vec_len, IfOk, OnOk};
 
+use crate::cursor::Cursor;
 use crate::fault::ObjectFault;
 use std::alloc::Global;
 
 /// How many bytes are copied if a command has no number of them.
 const COPIED: usize = 0x1_0000;
-
-/// The rest of a delta.
-#[derive(Clone, Copy)]
-struct Commands<'a> {
-    rest: &'a [u8],
-}
-
-impl<'a> Commands<'a> {
-    /// Takes a byte.
-    #[inline]
-    fn byte(&mut self) -> Result<usize, ObjectFault> {
-        let Some((byte, rest)) = self.rest.split_first() else {
-            return Err(ObjectFault::BrokenDelta);
-        };
-        self.rest = rest;
-        Ok(usize::from(*byte))
-    }
-
-    /// Takes this many bytes.
-    fn bytes(&mut self, len: usize) -> Result<&'a [u8], ObjectFault> {
-        if len > self.rest.len() {
-            return Err(ObjectFault::BrokenDelta);
-        }
-        let (bytes, rest) = self.rest.split_at(len);
-        self.rest = rest;
-        Ok(bytes)
-    }
-
-    /// Takes a number of seven bits for each byte, the lowest ones first. The highest bit of a byte says that more
-    /// follow.
-    fn number(&mut self) -> Result<usize, ObjectFault> {
-        let mut number = 0usize;
-        for turn in 0..9u32 {
-            let byte = self.byte()?;
-            number |= (byte & 0x7f).wrapping_shl(turn.saturating_mul(7));
-            if byte < 0x80 {
-                return Ok(number);
-            }
-        }
-        Err(ObjectFault::BrokenDelta)
-    }
-
-    /// Takes the bytes of a number, the lowest one first. Of these, only the ones are there whose bits are set.
-    fn parts(&mut self, bits: usize, count: u32) -> Result<usize, ObjectFault> {
-        let mut number = 0usize;
-        for turn in 0..count {
-            if bits.wrapping_shr(turn) & 1 == 1 {
-                number |= self.byte()?.wrapping_shl(turn.saturating_mul(8));
-            }
-        }
-        Ok(number)
-    }
-}
 
 /// Returns the content that a delta makes from a base. It has at most `limit` bytes.
 ///
@@ -74,11 +22,13 @@ pub fn apply_delta(
 ) -> Result<Vec<u8>, ObjectFault>
     ensures { IfOk result (λ content. vec_len content ≤ limit) }
 {
-    let mut commands = Commands { rest: delta };
-    if commands.number()? != base.len() {
+    let mut commands = Cursor { rest: delta };
+    if commands.number(0, 0) != Some(base.len()) {
         return Err(ObjectFault::BrokenDelta);
     }
-    let len = commands.number()?;
+    let Some(len) = commands.number(0, 0) else {
+        return Err(ObjectFault::BrokenDelta);
+    };
     if len > limit {
         return Err(ObjectFault::TooLarge);
     }
@@ -87,7 +37,9 @@ pub fn apply_delta(
         if commands.rest.is_empty() {
             break;
         }
-        let bytes = next_bytes(&mut commands, base)?;
+        let Some(bytes) = next_bytes(&mut commands, base) else {
+            return Err(ObjectFault::BrokenDelta);
+        };
         append_within(&mut out, len, bytes)?;
     }
     if out.len() != len {
@@ -96,24 +48,34 @@ pub fn apply_delta(
     Ok(out)
 }
 
-/// Takes a command, and returns the bytes that it adds: some of the base, or some of the delta.
-fn next_bytes<'a>(commands: &mut Commands<'a>, base: &'a [u8]) -> Result<&'a [u8], ObjectFault> {
+/// Takes a command, and returns the bytes that it adds: some of the base, or some of the delta. None if there are no
+/// such bytes.
+fn next_bytes<'a>(commands: &mut Cursor<'a>, base: &'a [u8]) -> Option<&'a [u8]> {
     let command = commands.byte()?;
     if command == 0 {
-        return Err(ObjectFault::BrokenDelta);
+        return None;
     }
     if command < 0x80 {
         return commands.bytes(command);
     }
-    let start = commands.parts(command, 4)?;
-    let len = match commands.parts(command / 16, 3)? {
+    let start = parts(commands, command, 4)?;
+    let len = match parts(commands, command / 16, 3)? {
         0 => COPIED,
         len => len,
     };
-    match base.get(start..start.saturating_add(len)) {
-        Some(bytes) => Ok(bytes),
-        None => Err(ObjectFault::BrokenDelta),
+    base.get(start..start.saturating_add(len))
+}
+
+/// Takes the bytes of a number, the lowest one first. Of these, only the ones are there whose bits are set.
+fn parts(commands: &mut Cursor<'_>, bits: usize, count: u32) -> Option<usize> {
+    let mut number = 0usize;
+    for turn in 0..count {
+        if bits.wrapping_shr(turn) & 1 == 1 {
+            let byte = commands.byte()?;
+            number |= byte.wrapping_shl(turn.saturating_mul(8));
+        }
     }
+    Some(number)
 }
 
 /// Appends bytes, if there are at most `limit` afterwards.

@@ -55,9 +55,15 @@ pub enum ObjectFault {
     /// The folders of other repositories' objects are nested too deeply, or are too many.
     #[error("there are too many alternates")]
     ManyAlternates,
+    /// A folder of packs has too many names.
+    #[error("there are too many packs")]
+    ManyPacks,
     /// A path of an alternate isn't UTF-8.
     #[error("the path of an alternate isn't UTF-8")]
     IllformedPath,
+    /// A named pipe, a device, a socket or a folder is where a file has to be. It isn't opened.
+    #[error("not a regular file")]
+    NotRegular,
     /// The system's error.
     #[error("{0}")]
     System(io::ErrorKind),

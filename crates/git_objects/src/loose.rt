@@ -1,6 +1,6 @@
 //! Loose objects: the header in front of the content.
 
-ghost use Rattle.std.specs.Prelude.{◌≡◌, ◌↔◌, IsTrue, IfOk, decimal};
+ghost use Rattle.std.specs.Prelude.{◌≡◌, ◌↔◌, IsTrue, ◌≤◌, IfOk, decimal, vec_len};
 ghost use Rattle.git_objects.specs.Objects.{object_bytes};
 
 use crate::fault::ObjectFault;
@@ -23,7 +23,9 @@ pub(crate) struct Parts<'a> {
 ///
 /// # Errors
 /// The file isn't what git writes, the content has more bytes, or out of memory.
-pub fn read_loose(alloc: Global, file: &[u8], limit: usize) -> Result<Object, ObjectFault> {
+pub fn read_loose(alloc: Global, file: &[u8], limit: usize) -> Result<Object, ObjectFault>
+    ensures { IfOk result (λ o. vec_len o.bytes ≤ limit) }
+{
     let bytes = inflate(alloc, file, limit.saturating_add(HEADER_LEN))?;
     let parts = split_loose(bytes.as_slice())?;
     if parts.content.len() > limit {
