@@ -2,6 +2,7 @@
 
 use crate::fault::ObjectFault;
 use crate::position::{read_exact, u32_at};
+use crate::split::id_len;
 use status_index::{HashKind, ObjectId};
 use std::os::unix::fs::FileExt;
 
@@ -89,14 +90,12 @@ impl<F: FileExt + Drop> PackIndex<F> {
         match self.hash {
             HashKind::Sha1 => {
                 let mut digest = [0u8; 20];
-                let at = place.saturating_mul(20).saturating_add(NAMES_AT);
-                read_exact(&self.file, &mut digest, at, ObjectFault::BrokenPackIndex)?;
+                self.fill(&mut digest, place.saturating_mul(20))?;
                 Ok(ObjectId::Sha1(digest))
             }
             HashKind::Sha256 => {
                 let mut digest = [0u8; 32];
-                let at = place.saturating_mul(32).saturating_add(NAMES_AT);
-                read_exact(&self.file, &mut digest, at, ObjectFault::BrokenPackIndex)?;
+                self.fill(&mut digest, place.saturating_mul(32))?;
                 Ok(ObjectId::Sha256(digest))
             }
         }
@@ -106,24 +105,27 @@ impl<F: FileExt + Drop> PackIndex<F> {
     /// bytes and those of eight follow each other.
     fn offset_at(&self, place: u64) -> Result<u64, ObjectFault> {
         let count = self.count_to(255);
-        let id_len = match self.hash {
-            HashKind::Sha1 => 20,
-            HashKind::Sha256 => 32,
-        };
-        let offsets_at = count.saturating_mul(id_len + 4).saturating_add(NAMES_AT);
+        let id_len = id_len(self.hash) as u64;
+        let offsets = count.saturating_mul(id_len.saturating_add(4));
         let mut bytes = [0u8; 4];
-        let at = place.saturating_mul(4).saturating_add(offsets_at);
-        read_exact(&self.file, &mut bytes, at, ObjectFault::BrokenPackIndex)?;
+        self.fill(&mut bytes, offsets.saturating_add(place.saturating_mul(4)))?;
         let offset = u64::from(u32::from_be_bytes(bytes));
         if offset < IS_LARGE {
             return Ok(offset);
         }
-        let large_at = count.saturating_mul(id_len + 8).saturating_add(NAMES_AT);
+        let large_offsets = count.saturating_mul(id_len.saturating_add(8));
+        let large_place = offset - IS_LARGE;
         let mut bytes = [0u8; 8];
-        let at = (offset - IS_LARGE)
-            .saturating_mul(8)
-            .saturating_add(large_at);
-        read_exact(&self.file, &mut bytes, at, ObjectFault::BrokenPackIndex)?;
+        self.fill(
+            &mut bytes,
+            large_offsets.saturating_add(large_place.saturating_mul(8)),
+        )?;
         Ok(u64::from_be_bytes(bytes))
+    }
+
+    /// Fills a buffer with the bytes that are so many after the table of first bytes.
+    fn fill(&self, buffer: &mut [u8], after: u64) -> Result<(), ObjectFault> {
+        let at = after.saturating_add(NAMES_AT);
+        read_exact(&self.file, buffer, at, ObjectFault::BrokenPackIndex)
     }
 }
