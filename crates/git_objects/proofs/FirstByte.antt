@@ -1,5 +1,5 @@
 -- The parts at the first byte of a value.
-use Rattle.std.proofs.Common.{◌≡◌, ℕ, suc, ◌+◌, ◌<◌, ◌==◌, false, List, ◌∷◌, ◌++◌, length, take, drop, get_or, position, Some, All, sym, ◌∙◌, ap, arith, add-one}
+use Rattle.std.proofs.Common.{◌≡◌, ℕ, suc, ◌+◌, ◌<◌, false, List, ◌∷◌, ◌++◌, length, take, drop, get_or, position, Some, sym, ◌∙◌, ap, arith, add-one}
 use Rattle.std.proofs.lemmas.Bool.{eqb-true}
 use Rattle.std.proofs.lemmas.List.{take-append-drop, get_or-take, length-take-le}
 use Rattle.std.proofs.Math.Seq.{drop-cons}

@@ -1,5 +1,5 @@
 -- The header of a loose object.
-use Rattle.std.proofs.Common.{◌≡◌, ℕ, List, [], ◌∷◌, ◌++◌, sym, ◌∙◌, ap, append_assoc, subst}
+use Rattle.std.proofs.Common.{◌≡◌, ℕ, List, [], ◌∷◌, ◌++◌, sym, ◌∙◌, ap, append_assoc}
 
 -- A name, a space, digits, a zero byte and a content.
 pub parts_joined : (name digits content header bytes : List ℕ) → header ≡ name ++ 32 ∷ digits → bytes ≡ header ++ 0 ∷ content

@@ -60,17 +60,10 @@ struct Stored<'a>(&'a [u8]);
 
 impl FileExt for Stored<'_> {
     fn read_at(&self, buf: &mut [u8], offset: u64) -> io::Result<usize> {
-        let mut rest = self.0.get(offset as usize..).unwrap_or(b"");
-        let mut count = 0usize;
-        for slot in buf.iter_mut() {
-            let Some((byte, more)) = rest.split_first() else {
-                return Ok(count);
-            };
-            *slot = *byte;
-            rest = more;
-            count += 1;
-        }
-        Ok(count)
+        let rest = self.0.get(offset as usize..).unwrap_or(b"");
+        let len = rest.len().min(buf.len());
+        buf[..len].copy_from_slice(&rest[..len]);
+        Ok(len)
     }
 
     fn write_at(&self, _buf: &[u8], _offset: u64) -> io::Result<usize> {
