@@ -1,4 +1,4 @@
--- What the content of a commit and of a tree states.
+-- The statements of a commit's and of a tree's content.
 use Rattle.std.specs.Prelude.{◌≡◌, ◌≤◌, ◌<◌, ℕ, ◌+◌, ◌-◌, ◌*◌, List, [], ◌∷◌, ◌++◌, codes, Ok, All}
 use Rattle.hex.specs.Hex.{decode_of}
 use Rattle.status_index.specs.declared.id.HashKind.{HashKind}

@@ -14,7 +14,7 @@ kind_name Tree = codes "tree"
 kind_name Blob = codes "blob"
 kind_name Tag = codes "tag"
 
--- What is hashed: the kind's name, a space, the content's length in decimal, a zero byte, and the content.
+-- The bytes that are hashed: the kind's name, a space, the content's length in decimal, a zero byte, and the content.
 abbrev pub object_bytes : ObjectKind → List ℕ → List ℕ
 object_bytes kind content = kind_name kind ++ codes " " ++ decimal (length content) ++ 0 ∷ [] ++ content
 

@@ -25,7 +25,7 @@ impl<'a> Cursor<'a> {
         Some(bytes)
     }
 
-    /// Takes a number of seven bits for each byte, the lowest ones first, which are put behind `bits` bits that are
+    /// Takes a number of seven bits for each byte, the lowest ones first, which are put above `bits` bits that are
     /// known. The highest bit of a byte says that more follow. None if the bytes end, or if the number has more than
     /// nine bytes.
     pub(crate) fn number(&mut self, known: usize, bits: u32) -> Option<usize> {

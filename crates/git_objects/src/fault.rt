@@ -16,7 +16,7 @@ pub enum ObjectFault {
         /// The id that was asked for.
         id: ObjectId,
     },
-    /// What is stored under an id has another id.
+    /// The object that is stored under an id has another id.
     #[error("object {} is damaged: its content has another id", Digits(id))]
     WrongId {
         /// The id that was asked for.
@@ -61,7 +61,7 @@ pub enum ObjectFault {
     /// A path of an alternate isn't UTF-8.
     #[error("the path of an alternate isn't UTF-8")]
     IllformedPath,
-    /// A named pipe, a device, a socket or a folder is where a file has to be. It isn't opened.
+    /// A named pipe, a device, a socket or a folder has the path of a file. It isn't opened.
     #[error("not a regular file")]
     NotRegular,
     /// The system's error.

@@ -7,7 +7,7 @@ use crate::fault::ObjectFault;
 use sha2::Digest;
 use status_index::{HashKind, ObjectId};
 
-/// What an object is.
+/// The kind of an object.
 #[derive(Clone, Copy, Debug, PartialEq, Eq)]
 pub enum ObjectKind {
     /// A commit.

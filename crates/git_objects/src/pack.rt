@@ -24,7 +24,7 @@ const WIDER: usize = 12;
 /// The most compressed bytes that are read for an object.
 const LARGEST_WINDOW: usize = 2 << 30;
 
-/// What an entry has.
+/// The kind of an entry.
 #[derive(Clone, Copy)]
 enum EntryKind {
     /// An object of this kind.
@@ -57,7 +57,7 @@ pub(crate) struct Pack<F> {
     index: PackIndex<F>,
     file: F,
     hash: HashKind,
-    /// Where the entries end, and the checksum begins.
+    /// The offset of the checksum, before which the entries end.
     end: u64,
 }
 

@@ -85,7 +85,7 @@ impl<F: FileExt + Drop> PackIndex<F> {
         Err(ObjectFault::BrokenPackIndex)
     }
 
-    /// Returns the id of a place in the order of ids.
+    /// Returns the id at a position in the order of ids.
     fn id_at(&self, place: u64) -> Result<ObjectId, ObjectFault> {
         match self.hash {
             HashKind::Sha1 => {
@@ -101,7 +101,7 @@ impl<F: FileExt + Drop> PackIndex<F> {
         }
     }
 
-    /// Returns the offset of the object at a place in the order of ids. Ids, checksums of four bytes, offsets of four
+    /// Returns the offset of the object at a position in the order of ids. Ids, checksums of four bytes, offsets of four
     /// bytes and those of eight follow each other.
     fn offset_at(&self, place: u64) -> Result<u64, ObjectFault> {
         let count = self.count_to(255);

@@ -94,7 +94,7 @@ where
     let path = format!(in rt.alloc(); "{folder}/pack/")?;
     let names = names_in(rt, path.as_str())?;
     for name in names.split(|byte| *byte == 0) {
-        // A name that isn't UTF-8 is none that git gives a pack.
+        // A name that isn't UTF-8 is no pack's: git writes hexadecimal digits.
         if let Ok(name) = str::from_utf8(name)
             && let Some(name) = name.strip_suffix(".idx")
         {
