@@ -2,3 +2,4 @@ pub mod Puts
 pub mod Stack
 pub mod Entries
 pub mod Changes
+pub mod Folders

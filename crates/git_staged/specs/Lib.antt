@@ -1,3 +1,4 @@
 pub mod Letters
+pub mod TreeFiles
 pub mod Trees
 pub mod OpenFolders

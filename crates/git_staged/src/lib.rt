@@ -1,11 +1,13 @@
 //! What is staged: how an index differs from a commit, and the id of the tree that it makes, as `git write-tree` prints it.
 //!
-//! `letters` has the letters of git's first column. `write_tree` goes over the entries of an index; `builder` puts each into
+//! `files` makes an index of a commit's tree, and `letters` compares it with another one: it has the letters of git's first
+//! column. `write_tree` goes over the entries of an index; `builder` puts each into
 //! the tree, and `item` makes the tree's bytes and its id. `error` is why an index makes no tree.
 #![tactic(auto)]
 
 mod builder;
 pub mod error;
+pub mod files;
 mod item;
 pub mod letters;
 #[cfg(test)]
@@ -13,5 +15,6 @@ mod tests;
 mod write_tree;
 
 pub use error::TreeError;
+pub use files::{TreeFault, read_tree};
 pub use letters::{Change, Letter, changed_entries, deleted_files};
 pub use write_tree::tree_id;

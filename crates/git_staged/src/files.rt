@@ -1,0 +1,182 @@
+//! A tree as an index: the entries that `git read-tree` makes of it.
+
+ghost use Rattle.std.specs.Prelude.{◌≡◌, ◌∷◌, ◌++◌, [], List, IfOk, OnOk};
+ghost use Rattle.status_index.specs.BlobId.{id_kind};
+ghost use Rattle.status_index.specs.Entries.{IndexEntry};
+ghost use Rattle.status_index.specs.States.{index_of};
+ghost use Rattle.git_staged.specs.TreeFiles.{AreFilesOf, HasFiles, IsFile, IsItem, is_folder, tree_mode};
+
+use bitflags::Flags as _;
+use bstr::BStr;
+use git_objects::{FirstItem, ObjectFault, ObjectKind, ReadObject, TreeItem};
+use status_index::{Flags, IndexError, Mode, Moment, ObjectId, Stat, State};
+use std::alloc::{AllocError, Global};
+use thiserror::Error;
+
+/// How many folders may be within each other, as in git (`core.maxTreeDepth`).
+const MOST_FOLDERS: usize = 2048;
+
+/// Why a tree isn't read.
+#[derive(Clone, Copy, Debug, PartialEq, Eq, Error)]
+pub enum TreeFault {
+    /// An object isn't read, or a tree's bytes are damaged.
+    #[error("{fault}")]
+    Object {
+        /// The id of the object.
+        id: ObjectId,
+        /// Why it isn't read.
+        fault: ObjectFault,
+    },
+    /// The object of a folder isn't a tree.
+    #[error("the object of a folder isn't a tree")]
+    NoTree {
+        /// The id of the object.
+        id: ObjectId,
+    },
+    /// The items of a tree aren't in order, or one has no name.
+    #[error("the items of a tree aren't in order")]
+    NotAscending,
+    /// More than 2,048 folders are within each other.
+    #[error("more than 2,048 folders are within each other")]
+    TooDeep,
+    /// An allocation failed.
+    #[error("Out of memory")]
+    Memory,
+}
+
+impl From<AllocError> for TreeFault {
+    fn from(_error: AllocError) -> TreeFault {
+        TreeFault::Memory
+    }
+}
+
+/// Returns the files of a tree as an index: each with its path, mode and id, and without a stat. Modes that git doesn't write
+/// any more, such as 100664, are those that it has in their place.
+///
+/// # Errors
+/// An object isn't read or isn't a tree, the items of a tree aren't in order, more than 2,048 folders are within each other,
+/// or out of memory.
+pub fn read_tree<O: ReadObject>(
+    alloc: Global,
+    objects: &O,
+    tree: ObjectId,
+) -> Result<State, TreeFault>
+    ensures { IfOk result (λ s. AreFilesOf tree (index_of s)) }
+{
+    let mut files = State::new(alloc, Moment::default());
+    let mut path = Vec::new(alloc);
+    match add_folder(objects, MOST_FOLDERS, tree, &mut path, &mut files) {
+        Ok(()) => Ok(files),
+        Err(fault) => Err(fault),
+    }
+}
+
+/// Adds the files of a folder to others. `path` is that of the folder, with a slash at its end, or nothing for the top.
+///
+/// # Errors
+/// Those of `read_tree`. Then the path is another one.
+#[cycle(folders)]
+fn add_folder<O: ReadObject>(
+    objects: &O,
+    depth: usize,
+    tree: ObjectId,
+    path: &mut Vec<u8>,
+    files: &mut State,
+) -> Result<(), TreeFault>
+    ensures path { OnOk result (path.new.items ≡ path.old.items) }
+    ensures files { OnOk result ((es : List IndexEntry) × (index_of files.new ≡ index_of files.old ++ es) × HasFiles depth tree path.old.items es) }
+{
+    if depth == 0 {
+        return Err(TreeFault::TooDeep);
+    }
+    let object = match objects.read(tree) {
+        Ok(object) => object,
+        Err(fault) => return Err(TreeFault::Object { id: tree, fault }),
+    };
+    let ObjectKind::Tree = object.kind else {
+        return Err(TreeFault::NoTree { id: tree });
+    };
+    let mut rest = object.bytes.as_slice();
+    'items: loop {
+        let first = match FirstItem::of_tree(tree.kind(), rest) {
+            Ok(Some(first)) => first,
+            Ok(None) => return Ok(()),
+            Err(fault) => return Err(TreeFault::Object { id: tree, fault }),
+        };
+        if let Err(fault) = add_item(objects, depth - 1, first.item, path, files) {
+            return Err(fault);
+        }
+        rest = first.rest;
+    }
+}
+
+/// Adds the files of an item of a folder to others: it is a file, or a folder of files.
+///
+/// # Errors
+/// Those of `read_tree`. Then the path is another one.
+#[cycle(folders)]
+fn add_item<O: ReadObject>(
+    objects: &O,
+    depth: usize,
+    item: TreeItem<'_>,
+    path: &mut Vec<u8>,
+    files: &mut State,
+) -> Result<(), TreeFault>
+    ensures path { OnOk result (path.new.items ≡ path.old.items) }
+    ensures files { OnOk result ((es : List IndexEntry) × (index_of files.new ≡ index_of files.old ++ es) × IsItem (HasFiles depth) path.old.items item.entry es) }
+{
+    let len = path.len();
+    path.extend_from_slice(item.name)?;
+    let mode = tree_mode(item.mode);
+    if !is_folder(mode) {
+        let added = add_file(files, path.as_slice(), mode, item.id);
+        path.truncate(len);
+        return added;
+    }
+    path.extend_from_slice(b"/")?;
+    if let Err(fault) = add_folder(objects, depth, item.id, path, files) {
+        return Err(fault);
+    }
+    path.truncate(len);
+    Ok(())
+}
+
+/// Adds a file to others.
+///
+/// # Errors
+/// It isn't after the others in order, or out of memory.
+fn add_file(files: &mut State, path: &[u8], mode: Mode, id: ObjectId) -> Result<(), TreeFault>
+    ensures { OnOk result ((e : IndexEntry) × (index_of files.new ≡ index_of files.old ++ e ∷ []) × IsFile path.now mode id e) }
+{
+    match files.push_entry(
+        Stat::default(),
+        id,
+        Flags::empty(),
+        mode,
+        BStr::new(path),
+    ) {
+        Ok(()) => Ok(()),
+        Err(IndexError::Memory) => Err(TreeFault::Memory),
+        Err(_refused) => Err(TreeFault::NotAscending),
+    }
+}
+
+/// Returns whether a mode is of a folder.
+fn is_folder(mode: Mode) -> bool
+    ensures { result ≡ is_folder mode }
+{
+    mode.bits() == 0x4000
+}
+
+/// Returns the mode that git has for one of a tree: only its type counts, and of a file whether its owner may execute it.
+fn tree_mode(bits: u32) -> Mode
+    ensures { result ≡ tree_mode bits }
+{
+    match bits / 0x1000 % 0x10 {
+        0x4 => Mode::Dir,
+        0x8 if bits / 0x40 % 2 == 0 => Mode::File,
+        0x8 => Mode::FileExecutable,
+        0xA => Mode::Symlink,
+        _ => Mode::Commit,
+    }
+}
