@@ -8,6 +8,7 @@ use crate::refresh::Refresh;
 use crate::refused::{Illformed, Refused};
 use crate::request::{Request, Selected, selected_by};
 use crate::selection::{Exceptions, check_each, tops_of, untracked_of};
+use crate::staged::run_staged;
 use git_attributes::AttributeFiles;
 use git_explain::{Wanted, run_explain};
 use git_repository::{
@@ -24,6 +25,7 @@ use status_index::{Moment, State, stat};
 use std::alloc::{AllocError, Global};
 use std::env;
 use std::io::{self, Write as _};
+use std::os::unix::fs::FileExt;
 use std::path::Path;
 use std::rt::{Env, Files};
 use std::sync::Wait;
@@ -31,7 +33,7 @@ use std::sync::atomic::{AtomicBool, Ordering};
 use std::thread::Threads;
 
 /// The number of entries of a piece of work if the first difference ends the call. Each thread has at most 8 pieces before
-/// the call sees that it may end: some 2,000 entries with the usual 4 threads.
+/// the call first sees that it may end: some 2,000 entries with the usual 4 threads.
 const SMALL_CHUNK: usize = 64;
 
 /// The exit status of a failure.
@@ -47,7 +49,7 @@ pub fn is_dirty<R: AllocGlobal + Env + Files + Sync + Threads + Wait, E: io::Wri
     faults: &mut E,
 ) -> Option<bool>
 where
-    R::File: Send,
+    R::File: FileExt + Send,
     R::Dir: Send,
 {
     let request = Request {
@@ -62,7 +64,8 @@ where
 }
 
 /// Writes the lines of the checkout's differences to `output`, and notes and failures to `faults`. Returns the exit status of
-/// `git dirty`: 0 if nothing differs, 1 if an entry differs, and 2 after a failure. A path that isn't UTF-8 fails by itself:
+/// `git dirty`: 0 if nothing differs, 1 if an entry differs, and 2 after a failure. The differences are those from the index,
+/// or, if the request says so, those of the index from HEAD. A path that isn't UTF-8 fails by itself:
 /// all other lines are written, then a line for each such path, and the index isn't refreshed.
 pub fn run<R: AllocGlobal + Env + Files + Sync + Threads + Wait, O: io::Write, E: io::Write>(
     rt: &R,
@@ -71,10 +74,15 @@ pub fn run<R: AllocGlobal + Env + Files + Sync + Threads + Wait, O: io::Write, E
     faults: &mut E,
 ) -> u8
 where
-    R::File: Send,
+    R::File: FileExt + Send,
     R::Dir: Send,
 {
-    match run_in_repository(rt, request, output, faults) {
+    let ended = if request.staged {
+        run_staged(rt, request, output)
+    } else {
+        run_in_repository(rt, request, output, faults)
+    };
+    match ended {
         Ok(status) => status,
         Err(refused) => print_failure(rt.alloc(), refused, faults),
     }
@@ -325,7 +333,11 @@ fn note<E: io::Write>(faults: &mut E, words: &'static str) {
 }
 
 /// Returns how a repository's entries are compared and printed.
-fn settings_of(repository: &Repository, request: &Request<'_>, timestamp: Moment) -> Settings {
+pub(crate) fn settings_of(
+    repository: &Repository,
+    request: &Request<'_>,
+    timestamp: Moment,
+) -> Settings {
     let found = &repository.settings;
     // A refresh compares all entries.
     let stops = request.quiet && !request.refresh;

@@ -43,6 +43,7 @@ pub fn request_of<'a>(alloc: Global, matches: &ArgMatches<'a>) -> Result<Request
         stats: matches.get_flag("stats"),
         explain: matches.get_flag("explain"),
         json: matches.get_flag("json"),
+        staged: matches.get_flag("staged"),
         enter: true,
         threads: matches.get_one("threads"),
         paths,
@@ -64,6 +65,7 @@ pub fn command_line<'a>(alloc: Global) -> Result<Command<'a>, AllocError> {
         .arg(flag(alloc, "zero", "End lines with a NUL, and don't quote paths").short('z'))?
         .arg(quiet(alloc))?
         .arg(refresh(alloc))?
+        .arg(staged(alloc)?)?
         .arg(explain(alloc)?)?
         .arg(json(alloc)?)?
         .arg(threads(alloc))?
@@ -143,6 +145,22 @@ fn explain<'a>(alloc: Global) -> Result<Arg<'a>, AllocError> {
     .conflicts_with("zero")?
     .conflicts_with("quiet")?
     .conflicts_with("refresh")?
+    .conflicts_with("stats")
+}
+
+/// Returns the flag that compares with HEAD.
+///
+/// # Errors
+/// Out of memory.
+fn staged<'a>(alloc: Global) -> Result<Arg<'a>, AllocError> {
+    flag(
+        alloc,
+        "staged",
+        "List what is staged: how the index differs from HEAD",
+    )
+    .long("staged")
+    .conflicts_with("refresh")?
+    .conflicts_with("explain")?
     .conflicts_with("stats")
 }
 

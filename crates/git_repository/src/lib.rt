@@ -32,6 +32,7 @@ pub mod values;
 pub use attribute_files::GitAttributeFiles;
 pub use config::{Config, ConfigError, Variable};
 pub use error::RepositoryError;
+pub use heads::head_of;
 pub use ignored::IgnoredSubmodules;
 pub use intended::IntendedWorktree;
 pub use location::Repository;

@@ -148,13 +148,7 @@ fn add_item<O: ReadObject>(
 fn add_file(files: &mut State, path: &[u8], mode: Mode, id: ObjectId) -> Result<(), TreeFault>
     ensures { OnOk result ((e : IndexEntry) × (index_of files.new ≡ index_of files.old ++ e ∷ []) × IsFile path.now mode id e) }
 {
-    match files.push_entry(
-        Stat::default(),
-        id,
-        Flags::empty(),
-        mode,
-        BStr::new(path),
-    ) {
+    match files.push_entry(Stat::default(), id, Flags::empty(), mode, BStr::new(path)) {
         Ok(()) => Ok(()),
         Err(IndexError::Memory) => Err(TreeFault::Memory),
         Err(_refused) => Err(TreeFault::NotAscending),

@@ -1,9 +1,10 @@
 //! Ids that `git write-tree` of git 2.39 printed for these entries.
 
-use crate::{TreeError, tree_id};
+use crate::{Letter, TreeError, changed_entries, deleted_files, read_tree, tree_id};
 use bstr::BStr;
+use git_objects::{MemoryObjects, ObjectKind};
 use status_index::{Flags, HashKind, IndexError, Mode, Moment, ObjectId, Stat, State};
-use std::alloc::Global;
+use std::alloc::{AllocError, Global};
 use std::test::Fail;
 
 /// An entry: its path, its mode, its id and its flags.
@@ -148,5 +149,84 @@ fn a_conflict_makes_no_tree(rt: HostRuntime) -> Result<(), Fail> {
         let made = tree_id(alloc, HashKind::Sha1, &index(alloc, &rows)?);
         assert_eq!(rt; made, Err(TreeError::Conflict), "at stage {stage}");
     }
+    Ok(())
+}
+
+#[test]
+fn letters_are_gits(rt: HostRuntime) -> Result<(), Fail> {
+    let alloc = rt.alloc();
+    let (one, two) = (
+        repeated(HashKind::Sha1, 0x11),
+        repeated(HashKind::Sha1, 0x22),
+    );
+    let (plain, added) = (Flags::from_stage(0), Flags::INTENT_TO_ADD);
+    // The letters of the first column that `git status --porcelain` of git 2.39 prints for these.
+    let head = index(
+        alloc,
+        &[
+            ("gone", Mode::File, one, plain),
+            ("kept", Mode::File, one, plain),
+            ("mode", Mode::File, one, plain),
+            ("other", Mode::File, one, plain),
+            ("type", Mode::Symlink, one, plain),
+            ("unmerged", Mode::File, one, plain),
+            ("wanted", Mode::File, one, plain),
+        ],
+    )?;
+    let now = index(
+        alloc,
+        &[
+            ("kept", Mode::File, one, plain),
+            ("mode", Mode::FileExecutable, one, plain),
+            ("n", Mode::Commit, two, plain),
+            ("other", Mode::File, two, plain),
+            ("type", Mode::File, one, plain),
+            ("unmerged", Mode::File, one, Flags::from_stage(1)),
+            ("unmerged", Mode::File, two, Flags::from_stage(2)),
+            ("wanted", Mode::File, two, added),
+        ],
+    )?;
+    let mut seen = Vec::new(alloc);
+    for change in changed_entries(alloc, &head, &now)? {
+        seen.push((change.path.as_bytes(), change.letter))?;
+    }
+    let changed: [(&[u8], Letter); 4] = [
+        (b"mode", Letter::Modified),
+        (b"n", Letter::Added),
+        (b"other", Letter::Modified),
+        (b"type", Letter::TypeChanged),
+    ];
+    assert_eq!(rt; seen.as_slice(), &changed[..]);
+    let mut gone = Vec::new(alloc);
+    for change in deleted_files(alloc, &head, &now)? {
+        gone.push((change.path.as_bytes(), change.letter))?;
+    }
+    let deleted: [(&[u8], Letter); 2] = [(b"gone", Letter::Deleted), (b"wanted", Letter::Deleted)];
+    assert_eq!(rt; gone.as_slice(), &deleted[..]);
+    Ok(())
+}
+
+#[test]
+fn a_tree_is_read_as_it_is_written(rt: HostRuntime) -> Result<(), Fail> {
+    let alloc = rt.alloc();
+    let kind = HashKind::Sha1;
+    let mut objects = MemoryObjects::new(alloc);
+    let mut inner = Vec::from_slice(alloc, b"100664 b\0")?;
+    inner.extend_from_slice(&[0x11; 20])?;
+    let folder = objects.add(kind, ObjectKind::Tree, inner)?;
+    let mut outer = Vec::from_slice(alloc, b"100755 a\0")?;
+    outer.extend_from_slice(&[0x22; 20])?;
+    outer.extend_from_slice(b"40000 d\0")?;
+    outer.extend_from_slice(folder.as_bytes())?;
+    let tree = objects.add(kind, ObjectKind::Tree, outer)?;
+    let files = read_tree(alloc, &objects, tree).map_err(|_| AllocError)?;
+    let mut seen = Vec::new(alloc);
+    for entry in files.entries() {
+        seen.push((entry.path_in(files.path_backing()).as_bytes(), entry.mode))?;
+    }
+    let there: [(&[u8], Mode); 2] = [(b"a", Mode::FileExecutable), (b"d/b", Mode::File)];
+    assert_eq!(rt; seen.as_slice(), &there[..]);
+    let missing = repeated(kind, 0x33);
+    assert!(rt; read_tree(alloc, &objects, missing).is_err());
     Ok(())
 }

@@ -1,0 +1,213 @@
+//! The first column alone: how the index differs from HEAD.
+
+use crate::checkout::settings_of;
+use crate::head::{Head, head_of_repository};
+use crate::index_file::read_index_file;
+use crate::refused::{PathRefusal, Refused};
+use crate::request::{Request, Selected, selected_by};
+use crate::selection::{has_entry, tops_of};
+use bstr::BStr;
+use git_repository::Repository;
+use git_staged::{Letter, changed_entries, deleted_files};
+use git_status::lines::{LineStyle, push_line, push_path};
+use git_status::{Failure, Paths, ReadIndex};
+use status_base::worktree::Pathspec;
+use status_call::index_as_worktree::{Conflict, EntryStatus};
+use status_index::{Moment, State};
+use std::alloc::{AllocError, Global};
+use std::io;
+use std::os::unix::fs::FileExt;
+use std::rt::{Env, Files};
+use text_output::print_all;
+
+/// How a path differs from HEAD.
+#[derive(Clone, Copy)]
+enum Difference {
+    Staged(Letter),
+    Conflict(Conflict),
+}
+
+/// A path that differs from HEAD.
+#[derive(Clone, Copy)]
+struct Line<'a> {
+    path: BStr<'a>,
+    difference: Difference,
+}
+
+/// Writes a line for each selected path at which the index differs from HEAD, in the order of the paths, and returns the exit
+/// status of `git dirty --staged`: 0 if there is none, and otherwise 1. No file of the worktree is looked at.
+///
+/// # Errors
+/// There is no repository, its index, HEAD or a tree can't be read, a path isn't in its worktree, is a pattern or selects
+/// nothing, or the output takes no more.
+pub(crate) fn run_staged<R: AllocGlobal + Env + Files, O: io::Write>(
+    rt: &R,
+    request: &Request<'_>,
+    output: &mut O,
+) -> Result<u8, Refused>
+where
+    R::File: FileExt,
+{
+    let repository = Repository::discover(rt, request.folder)?;
+    let selected = selected_by(rt, &repository, &request.paths)?;
+    let found = read_index_file(rt, &repository)?;
+    let Some(file) = found else {
+        let nothing = State::new(rt.alloc(), Moment { secs: 0, nsecs: 0 });
+        return print_staged(rt, request, &repository, &nothing, &selected, output);
+    };
+    let settings = settings_of(&repository, request, file.timestamp);
+    let read = ReadIndex::of(rt.alloc(), &file.bytes, &settings)?;
+    print_staged(
+        rt,
+        request,
+        &repository,
+        &read.file.state,
+        &selected,
+        output,
+    )
+}
+
+/// Writes the lines of an index.
+fn print_staged<R: AllocGlobal + Env + Files, O: io::Write>(
+    rt: &R,
+    request: &Request<'_>,
+    repository: &Repository,
+    index: &State,
+    selected: &[Selected<'_>],
+    output: &mut O,
+) -> Result<u8, Refused>
+where
+    R::File: FileExt,
+{
+    let alloc = rt.alloc();
+    let found = head_of_repository(rt, repository, index)?;
+    let head = match &found {
+        Head::SameAsIndex => index,
+        Head::Files(files) => files,
+    };
+    check_either(alloc, index, head, selected)?;
+    let lines = match found {
+        Head::SameAsIndex => Vec::new(alloc),
+        Head::Files(_) => lines_of(alloc, head, index, selected)?,
+    };
+    if !request.quiet {
+        let style = LineStyle {
+            zero: request.zero,
+            quote_all: repository.settings.quote_path,
+        };
+        let text = text_of(alloc, style, &lines)?;
+        if let Err(error) = print_all(&text, output) {
+            return Err(Refused::Index(Failure::Output(error)));
+        }
+    }
+    Ok(u8::from(!lines.is_empty()))
+}
+
+/// Checks that the index or HEAD has a file at each selected path or below it.
+///
+/// # Errors
+/// Nothing is at one, or out of memory.
+fn check_either(
+    alloc: Global,
+    index: &State,
+    head: &State,
+    selected: &[Selected<'_>],
+) -> Result<(), Refused> {
+    for one in selected {
+        if !one.path.is_empty() && !has_entry(alloc, index, one)? && !has_entry(alloc, head, one)? {
+            return Err(Refused::path(alloc, one.word, PathRefusal::Unmatched));
+        }
+    }
+    Ok(())
+}
+
+/// Returns the selected paths that differ, in order.
+fn lines_of<'a>(
+    alloc: Global,
+    head: &'a State,
+    index: &'a State,
+    selected: &[Selected<'_>],
+) -> Result<Vec<Line<'a>>, AllocError> {
+    let nothing = State::new(alloc, index.timestamp());
+    let tops = tops_of(alloc, selected)?;
+    let paths = Paths {
+        tops: &tops,
+        left_out: &nothing,
+    };
+    let mut lines = Vec::new(alloc);
+    for change in changed_entries(alloc, head, index)? {
+        lines.push(Line {
+            path: change.path,
+            difference: Difference::Staged(change.letter),
+        })?;
+    }
+    for change in deleted_files(alloc, head, index)? {
+        lines.push(Line {
+            path: change.path,
+            difference: Difference::Staged(change.letter),
+        })?;
+    }
+    push_conflicts(&mut lines, index)?;
+    lines.retain(|line| paths.includes(line.path, false));
+    lines.sort_by(|a, b| a.path.cmp(&b.path))?;
+    Ok(lines)
+}
+
+/// Adds a line for each conflict of an index.
+fn push_conflicts<'a>(lines: &mut Vec<Line<'a>>, index: &'a State) -> Result<(), AllocError> {
+    let (entries, backing) = (index.entries(), index.path_backing());
+    let mut last = BStr::new(b"");
+    for (at, entry) in entries.iter().enumerate() {
+        let path = entry.path_in(backing);
+        if entry.stage_raw() != 0
+            && path != last
+            && let Some((conflict, _, _)) = Conflict::try_from_entry(entries, backing, at, path)
+        {
+            lines.push(Line {
+                path,
+                difference: Difference::Conflict(conflict),
+            })?;
+        }
+        last = path;
+    }
+    Ok(())
+}
+
+/// Returns the text of lines.
+fn text_of(alloc: Global, style: LineStyle, lines: &[Line<'_>]) -> Result<Vec<u8>, AllocError> {
+    let mut text = Vec::new(alloc);
+    for line in lines {
+        match line.difference {
+            Difference::Staged(letter) => push_staged(&mut text, style, line.path, letter)?,
+            Difference::Conflict(summary) => {
+                let status = EntryStatus::<(), ()>::Conflict {
+                    summary,
+                    entries: [None, None, None],
+                };
+                push_line(&mut text, style, line.path, &status)?;
+            }
+        }
+    }
+    Ok(text)
+}
+
+/// Appends the line of a path that is staged.
+fn push_staged(
+    text: &mut Vec<u8>,
+    style: LineStyle,
+    path: BStr<'_>,
+    letter: Letter,
+) -> Result<(), AllocError> {
+    text.extend_from_slice(match letter {
+        Letter::Added => b"A  ",
+        Letter::Modified => b"M  ",
+        Letter::TypeChanged => b"T  ",
+        Letter::Deleted => b"D  ",
+    })?;
+    if style.zero {
+        text.extend_from_slice(path.as_bytes())?;
+        return text.extend_from_slice(b"\0");
+    }
+    push_path(text, path.as_bytes(), style.quote_all)?;
+    text.extend_from_slice(b"\n")
+}
