@@ -35,7 +35,7 @@ struct Line<'a> {
 }
 
 /// Writes a line for each selected path at which the index differs from HEAD, in the order of the paths, and returns the exit
-/// status of `git dirty --staged`: 0 if there is none, and otherwise 1. No file of the worktree is looked at.
+/// status of `git dirty --staged`: 0 if there is none, and otherwise 1. `lstat` is called for no file of the worktree.
 ///
 /// # Errors
 /// There is no repository, its index, HEAD or a tree can't be read, a path isn't in its worktree, is a pattern or selects

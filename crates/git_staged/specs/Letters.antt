@@ -34,7 +34,7 @@ is_intended e = has_bits e.flags.0 INTENT_TO_ADD.0
 abbrev pub letter_of : List IndexEntry → IndexEntry → Option Letter
 letter_of head e = if not (stage_of e == 0) || is_intended e then None else letter_by (filter (is_at e.path) head) e
 
--- The index has no entry at a path, but for one of `git add -N`.
+-- The index has no entry at a path, except one of `git add -N`.
 abbrev pub is_deleted : List IndexEntry → List ℕ → Bool
 is_deleted index path = not (list_any (λ e. not (is_intended e)) (filter (is_at path) index))
 

@@ -13,7 +13,7 @@ use Rattle.git_objects.specs.declared.tree.TreeItem.{TreeItem}
 use Rattle.git_objects.specs.Contents.{BeginsWith}
 use Rattle.git_objects.specs.Objects.{id_of_object}
 
--- A tree has just these items.
+-- A tree has exactly these items.
 abbrev pub AreItems : HashKind → List ℕ → List TreeItem → Type 0
 AreItems hash bytes [] = bytes ≡ []
 AreItems hash bytes (item ∷ items) = (rest : List ℕ) × BeginsWith hash bytes item rest × AreItems hash rest items

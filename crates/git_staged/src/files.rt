@@ -51,7 +51,7 @@ impl From<AllocError> for TreeFault {
 }
 
 /// Returns the files of a tree as an index: each with its path, mode and id, and without a stat. Modes that git doesn't write
-/// any more, such as 100664, are those that it has in their place.
+/// any more, such as 100664, are those that it writes today.
 ///
 /// # Errors
 /// An object isn't read or isn't a tree, the items of a tree aren't in order, more than 2,048 folders are within each other,

@@ -131,7 +131,7 @@ fn letter_of_file(index: &State, path: BStr<'_>) -> Option<Letter>
     None
 }
 
-/// Returns whether an index has no entry at a path, but for one of `git add -N`.
+/// Returns whether an index has no entry at a path, except one of `git add -N`.
 fn is_deleted(index: &State, path: BStr<'_>) -> bool
     ensures { result ≡ is_deleted (index_of index.now) (bstr_bytes path.entry) }
 {

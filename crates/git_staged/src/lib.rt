@@ -1,4 +1,4 @@
-//! What is staged: how an index differs from a commit, and the id of the tree that it makes, as `git write-tree` prints it.
+//! Staged changes: how an index differs from a commit, and the id of the tree that it makes, as `git write-tree` prints it.
 //!
 //! `files` makes an index of a commit's tree, and `letters` compares another one with it: it has the letters of git's first
 //! column. `write_tree` goes over the entries of an index, `builder` puts each into the tree, and `item` makes the tree's
