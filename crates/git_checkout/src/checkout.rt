@@ -31,6 +31,7 @@ use std::rt::{Env, Files};
 use std::sync::Wait;
 use std::sync::atomic::{AtomicBool, Ordering};
 use std::thread::Threads;
+use text_output::OutputError;
 
 /// The number of entries of a piece of work if the first difference ends the call. Each thread has at most 8 pieces before
 /// the call first sees that it may end: some 2,000 entries with the usual 4 threads.
@@ -84,6 +85,7 @@ where
     };
     match ended {
         Ok(status) => status,
+        Err(Refused::Index(Failure::Output(OutputError::Closed))) => FAILED,
         Err(refused) => print_failure(rt.alloc(), refused, faults),
     }
 }

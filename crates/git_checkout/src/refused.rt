@@ -41,6 +41,8 @@ pub enum Refused {
         /// Why they aren't.
         reason: &'static str,
     },
+    /// The object of HEAD isn't a commit.
+    NoCommit,
     /// HEAD's commit can't be read.
     Object(ObjectFault),
     /// The tree of HEAD's commit can't be read.
@@ -106,6 +108,7 @@ impl fmt::Display for Refused {
                 f,
                 "the index isn't compared with HEAD, since {reason}: use git diff --cached"
             ),
+            Refused::NoCommit => f.write_str("HEAD isn't a commit"),
             Refused::Object(fault) => write!(f, "can't read HEAD's commit: {fault}"),
             Refused::Tree(fault) => write!(f, "can't read the tree of HEAD's commit: {fault}"),
             Refused::Clock => f.write_str("the time of the index file isn't known"),
@@ -129,6 +132,28 @@ impl<T: Drop> From<AllocFailed<T>> for Refused {
 impl From<RepositoryError> for Refused {
     fn from(error: RepositoryError) -> Refused {
         Refused::Repository(error)
+    }
+}
+
+impl From<ObjectFault> for Refused {
+    fn from(fault: ObjectFault) -> Refused {
+        match fault {
+            ObjectFault::Memory => Refused::Memory,
+            fault => Refused::Object(fault),
+        }
+    }
+}
+
+impl From<TreeFault> for Refused {
+    fn from(fault: TreeFault) -> Refused {
+        match fault {
+            TreeFault::Memory
+            | TreeFault::Object {
+                fault: ObjectFault::Memory,
+                ..
+            } => Refused::Memory,
+            fault => Refused::Tree(fault),
+        }
     }
 }
 

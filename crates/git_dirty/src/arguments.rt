@@ -161,6 +161,7 @@ fn staged<'a>(alloc: Global) -> Result<Arg<'a>, AllocError> {
     .long("staged")
     .conflicts_with("refresh")?
     .conflicts_with("explain")?
+    .conflicts_with("json")?
     .conflicts_with("stats")
 }
 

@@ -11,11 +11,11 @@ use status_index::{HashKind, ObjectId};
 use std::os::unix::fs::FileExt;
 use std::rt::Files;
 
-/// The most bytes of an object's content, and of all deltas from which it is made: 1 GiB.
-pub const OBJECT_LIMIT: usize = 1 << 30;
+/// The most bytes of an object's content, and of all deltas from which it is made: 128 MiB. Commits and trees have fewer.
+pub const OBJECT_LIMIT: usize = 128 << 20;
 
 /// The most bytes of a loose object's file.
-const FILE_LIMIT: usize = 2 << 30;
+const FILE_LIMIT: usize = 128 << 20;
 
 /// The objects of a folder `objects` and of its alternates.
 #[derive(Drop)]
