@@ -2,7 +2,7 @@
 
 use crate::refused::Refused;
 use crate::replaced::check_objects;
-use git_objects::{ObjectKind, ObjectStore, ReadObject as _, id_of, tree_of_commit};
+use git_objects::{ObjectKind, ObjectStore, ReadObject as _, tree_of_commit};
 use git_repository::{Repository, head_of};
 use git_staged::{TreeError, read_tree, tree_id};
 use status_index::{Moment, ObjectId, State};
@@ -47,10 +47,6 @@ where
         Ok(id) if id == tree => return Ok(Head::SameAsIndex),
         Ok(_) | Err(TreeError::Conflict) => {}
         Err(TreeError::Memory) => return Err(Refused::Memory),
-    }
-    // Git knows the tree without items, whether it is stored or not.
-    if tree == id_of(kind, ObjectKind::Tree, b"") {
-        return Ok(Head::Files(State::new(alloc, Moment::default())));
     }
     Ok(Head::Files(read_tree(alloc, &objects, tree)?))
 }

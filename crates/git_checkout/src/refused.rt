@@ -147,11 +147,7 @@ impl From<ObjectFault> for Refused {
 impl From<TreeFault> for Refused {
     fn from(fault: TreeFault) -> Refused {
         match fault {
-            TreeFault::Memory
-            | TreeFault::Object {
-                fault: ObjectFault::Memory,
-                ..
-            } => Refused::Memory,
+            TreeFault::Memory => Refused::Memory,
             fault => Refused::Tree(fault),
         }
     }

@@ -5,6 +5,7 @@ use git_repository::regular::PACKED_LIMIT;
 use git_repository::{Repository, RepositoryError, Unread, read_regular};
 use std::alloc::{AllocError, Global};
 use std::env::{self, VarError};
+use std::fs;
 use std::io::{self, Read as _};
 use std::rt::{Env, Files};
 
@@ -82,8 +83,9 @@ fn unreadable(path: String, why: Unread) -> Refused {
     }
 }
 
-/// Returns whether a folder has a name that may be an id. It has none if it isn't there.
-fn has_id<R: Files>(rt: &R, path: &str) -> io::Result<bool> {
+/// Returns whether a folder, whose path a slash ends, has a reference by an id, or a folder that may have one. It has none if
+/// it isn't there.
+fn has_id<R: AllocGlobal + Files>(rt: &R, path: &str) -> io::Result<bool> {
     let mut folder = match rt.open_dir(path) {
         Ok(folder) => folder,
         Err(error) if error.kind() == io::ErrorKind::NotFound => return Ok(false),
@@ -96,11 +98,22 @@ fn has_id<R: Files>(rt: &R, path: &str) -> io::Result<bool> {
             return Ok(false);
         }
         // Each part has whole names, with a zero byte after each.
-        if part[..len].split(|byte| *byte == 0).any(is_id) {
-            return Ok(true);
+        for name in part[..len].split(|byte| *byte == 0) {
+            if is_id(name) || (!matches!(name, b"" | b"." | b"..") && is_folder(rt, path, name)?) {
+                return Ok(true);
+            }
         }
     }
     Ok(true)
+}
+
+/// Returns whether a name within a folder is that of another folder, or may be.
+fn is_folder<R: AllocGlobal + Files>(rt: &R, path: &str, name: &[u8]) -> io::Result<bool> {
+    let Ok(name) = str::from_utf8(name) else {
+        return Ok(true);
+    };
+    let path = format!(in rt.alloc(); "{path}{name}").map_err(|_| AllocError)?;
+    Ok(fs::metadata(rt, path.as_str())?.is_dir())
 }
 
 /// Returns whether a name has the digits of an id.

@@ -8,7 +8,7 @@ use crate::request::{Request, Selected, selected_by};
 use crate::selection::{has_entry, tops_of};
 use bstr::BStr;
 use git_repository::Repository;
-use git_staged::{Letter, changed_entries, deleted_files};
+use git_staged::{Change, Letter, changed_entries, deleted_files};
 use git_status::lines::{LineStyle, push_line, push_path};
 use git_status::{Failure, Paths, ReadIndex};
 use status_base::worktree::Pathspec;
@@ -135,22 +135,41 @@ fn lines_of<'a>(
         left_out: &nothing,
     };
     let mut lines = Vec::new(alloc);
-    for change in changed_entries(alloc, head, index)? {
-        lines.push(Line {
-            path: change.path,
-            difference: Difference::Staged(change.letter),
-        })?;
-    }
-    for change in deleted_files(alloc, head, index)? {
-        lines.push(Line {
-            path: change.path,
-            difference: Difference::Staged(change.letter),
-        })?;
-    }
+    push_changes(&mut lines, index, changed_entries(alloc, head, index)?)?;
+    push_changes(&mut lines, index, deleted_files(alloc, head, index)?)?;
     push_conflicts(&mut lines, index)?;
-    lines.retain(|line| paths.includes(line.path, false));
+    lines.retain(|line| {
+        let is_submodule = has_submodule(index, line.path) || has_submodule(head, line.path);
+        paths.includes(line.path, is_submodule)
+    });
     lines.sort_by(|a, b| a.path.cmp(&b.path))?;
     Ok(lines)
+}
+
+/// Returns whether an index has a submodule at a path.
+fn has_submodule(index: &State, path: BStr<'_>) -> bool {
+    index
+        .entries_at(path)
+        .iter()
+        .any(|entry| entry.mode.is_submodule())
+}
+
+/// Adds a line for each change, except at the path of a conflict.
+fn push_changes<'a>(
+    lines: &mut Vec<Line<'a>>,
+    index: &State,
+    changes: Vec<Change<'a>>,
+) -> Result<(), AllocError> {
+    for change in changes {
+        let mut entries = index.entries_at(change.path).iter();
+        if !entries.any(|entry| entry.stage_raw() != 0) {
+            lines.push(Line {
+                path: change.path,
+                difference: Difference::Staged(change.letter),
+            })?;
+        }
+    }
+    Ok(())
 }
 
 /// Adds a line for each conflict of an index.
@@ -158,9 +177,11 @@ fn push_conflicts<'a>(lines: &mut Vec<Line<'a>>, index: &'a State) -> Result<(),
     let (entries, backing) = (index.entries(), index.path_backing());
     let mut last = BStr::new(b"");
     for (at, entry) in entries.iter().enumerate() {
+        if entry.stage_raw() == 0 {
+            continue;
+        }
         let path = entry.path_in(backing);
-        if entry.stage_raw() != 0
-            && path != last
+        if path != last
             && let Some((conflict, _, _)) = Conflict::try_from_entry(entries, backing, at, path)
         {
             lines.push(Line {

@@ -12,14 +12,15 @@ const EXAMPLES: &str = "\
 Examples:
   git dirty            list the tracked files that differ from the index
   git dirty -q src     only set the exit status, for the files below src
+  git dirty --staged   list what is staged
   git dirty --explain README.md
                        say why README.md is listed, or isn't
 
 Exit status: 0 if nothing differs, 1 if something does, 2 after a failure.
-A line has the letters of git status --porcelain. The index isn't compared with
-a commit, so the first letter is a space, except for a conflict, and a change
-that is staged doesn't count. A path that selects nothing is a failure, and so
-is one with wildcards.
+A line has the letters of git status --porcelain. Without --staged the index
+isn't compared with a commit, so the first letter is a space, except for a
+conflict, and a change that is staged doesn't count. A path that selects
+nothing is a failure, and so is one with wildcards.
 Files with filters (git LFS), ident or an encoding aren't compared as git does:
 don't rely on this command there.";
 

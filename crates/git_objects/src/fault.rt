@@ -52,7 +52,7 @@ pub enum ObjectFault {
     /// A tree's bytes aren't a list of modes, names and ids.
     #[error("the tree is damaged")]
     BrokenTree,
-    /// The folders of other repositories' objects are nested too deeply, or are too many.
+    /// There are more than 4,096 folders of other repositories' objects.
     #[error("there are too many alternates")]
     ManyAlternates,
     /// A folder of packs has too many names.

@@ -4,7 +4,7 @@
 //! asked for: `object` computes ids, and `certified` compares them. So no other part has to be trusted: a wrong one can
 //! only fail. `store` reads the objects of a repository's folder, and `memory` has objects for callers and tests.
 //!
-//! `alternates` and `packs` list the folders and the packs of a store, and `paths` reads small files. `pack_index` finds an
+//! `alternates` and `packs` list the folders and the packs of a store, and `paths` reads files. `pack_index` finds an
 //! id in the index of a pack, and `pack` reads the entry at an offset, with `delta`. `loose` reads a loose object. Both
 //! decompress by `inflate`. `position`, `cursor` and `split` take bytes. `commit` and `tree` read contents, and `fault` has
 //! the errors.

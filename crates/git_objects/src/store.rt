@@ -3,7 +3,7 @@
 use crate::alternates::folders_of;
 use crate::fault::ObjectFault;
 use crate::loose::read_loose;
-use crate::object::{Object, certified};
+use crate::object::{Object, ObjectKind, certified};
 use crate::packs::{Packs, open_packs};
 use crate::paths::{loose_path, read_file};
 use crate::read::ReadObject;
@@ -11,7 +11,7 @@ use status_index::{HashKind, ObjectId};
 use std::os::unix::fs::FileExt;
 use std::rt::Files;
 
-/// The most bytes of an object's content, and of all deltas from which it is made: 128 MiB. Commits and trees have fewer.
+/// The most bytes of an object's content, and of all deltas from which it is made: 128 MiB.
 pub const OBJECT_LIMIT: usize = 128 << 20;
 
 /// The most bytes of a loose object's file.
@@ -81,9 +81,17 @@ where
         if id.kind() != self.hash {
             return Err(ObjectFault::Missing { id });
         }
-        match self.find(id)? {
-            Some(object) => certified(id, object),
-            None => certified(id, self.find_anew(id)?),
+        if let Some(object) = self.find(id)? {
+            return certified(id, object);
+        }
+        // The tree without items need not be stored.
+        let empty = Object {
+            kind: ObjectKind::Tree,
+            bytes: Vec::new(self.rt.alloc()),
+        };
+        match certified(id, empty) {
+            Ok(object) => Ok(object),
+            Err(_) => certified(id, self.find_anew(id)?),
         }
     }
 }

@@ -13,8 +13,11 @@ use status_index::{Flags, IndexError, Mode, Moment, ObjectId, Stat, State};
 use std::alloc::{AllocError, Global};
 use thiserror::Error;
 
-/// How many folders may be within each other, as in git (`core.maxTreeDepth`).
+/// How many folders may be within each other, as in newer versions of git (`core.maxTreeDepth`).
 const MOST_FOLDERS: usize = 2048;
+
+/// The most files of a tree. Its folders may be equal, so that few bytes make many files.
+const MOST_FILES: usize = 1 << 23;
 
 /// Why a tree isn't read.
 #[derive(Clone, Copy, Debug, PartialEq, Eq, Error)]
@@ -33,9 +36,12 @@ pub enum TreeFault {
         /// The id of the object.
         id: ObjectId,
     },
-    /// The items of a tree aren't in order, or one has no name.
+    /// The items of a tree aren't in order.
     #[error("the items of a tree aren't in order")]
     NotAscending,
+    /// The tree has more than 8,388,608 files.
+    #[error("the tree has more than 8,388,608 files")]
+    ManyFiles,
     /// More than 2,048 folders are within each other.
     #[error("more than 2,048 folders are within each other")]
     TooDeep,
@@ -55,7 +61,7 @@ impl From<AllocError> for TreeFault {
 ///
 /// # Errors
 /// An object isn't read or isn't a tree, the items of a tree aren't in order, more than 2,048 folders are within each other,
-/// or out of memory.
+/// there are more than 8,388,608 files, or out of memory.
 pub fn read_tree<O: ReadObject>(
     alloc: Global,
     objects: &O,
@@ -91,6 +97,7 @@ fn add_folder<O: ReadObject>(
     }
     let object = match objects.read(tree) {
         Ok(object) => object,
+        Err(ObjectFault::Memory) => return Err(TreeFault::Memory),
         Err(fault) => return Err(TreeFault::Object { id: tree, fault }),
     };
     let ObjectKind::Tree = object.kind else {
@@ -144,10 +151,13 @@ fn add_item<O: ReadObject>(
 /// Adds a file to others.
 ///
 /// # Errors
-/// It isn't after the others in order, or out of memory.
+/// It isn't after the others in order, there are too many, or out of memory.
 fn add_file(files: &mut State, path: &[u8], mode: Mode, id: ObjectId) -> Result<(), TreeFault>
     ensures { OnOk result ((e : IndexEntry) × (index_of files.new ≡ index_of files.old ++ e ∷ []) × IsFile path.now mode id e) }
 {
+    if files.entries().len() >= MOST_FILES {
+        return Err(TreeFault::ManyFiles);
+    }
     match files.push_entry(Stat::default(), id, Flags::empty(), mode, BStr::new(path)) {
         Ok(()) => Ok(()),
         Err(IndexError::Memory) => Err(TreeFault::Memory),
