@@ -1,6 +1,6 @@
 //! Ids that `git write-tree` of git 2.39 printed for these entries.
 
-use crate::{Letter, TreeError, changed_entries, deleted_files, read_tree, tree_id};
+use crate::{Change, Letter, TreeError, changed_entries, deleted_files, read_tree, tree_id};
 use bstr::BStr;
 use git_objects::{MemoryObjects, ObjectKind};
 use status_index::{Flags, HashKind, IndexError, Mode, Moment, ObjectId, Stat, State};
@@ -152,57 +152,73 @@ fn a_conflict_makes_no_tree(rt: HostRuntime) -> Result<(), Fail> {
     Ok(())
 }
 
-#[test]
-fn letters_are_gits(rt: HostRuntime) -> Result<(), Fail> {
-    let alloc = rt.alloc();
+/// Returns the files of a commit.
+fn committed(alloc: Global) -> Result<State, IndexError> {
+    let (one, plain) = (repeated(HashKind::Sha1, 0x11), Flags::from_stage(0));
+    let rows = [
+        ("gone", Mode::File, one, plain),
+        ("kept", Mode::File, one, plain),
+        ("mode", Mode::File, one, plain),
+        ("other", Mode::File, one, plain),
+        ("type", Mode::Symlink, one, plain),
+        ("unmerged", Mode::File, one, plain),
+        ("wanted", Mode::File, one, plain),
+    ];
+    index(alloc, &rows)
+}
+
+/// Returns an index that differs from them. The last entry is one of `git add -N`.
+fn staged(alloc: Global) -> Result<State, IndexError> {
     let (one, two) = (
         repeated(HashKind::Sha1, 0x11),
         repeated(HashKind::Sha1, 0x22),
     );
-    let (plain, added) = (Flags::from_stage(0), Flags::INTENT_TO_ADD);
-    // The letters of the first column that `git status --porcelain` of git 2.39 prints for these.
-    let head = index(
-        alloc,
-        &[
-            ("gone", Mode::File, one, plain),
-            ("kept", Mode::File, one, plain),
-            ("mode", Mode::File, one, plain),
-            ("other", Mode::File, one, plain),
-            ("type", Mode::Symlink, one, plain),
-            ("unmerged", Mode::File, one, plain),
-            ("wanted", Mode::File, one, plain),
-        ],
-    )?;
-    let now = index(
-        alloc,
-        &[
-            ("kept", Mode::File, one, plain),
-            ("mode", Mode::FileExecutable, one, plain),
-            ("n", Mode::Commit, two, plain),
-            ("other", Mode::File, two, plain),
-            ("type", Mode::File, one, plain),
-            ("unmerged", Mode::File, one, Flags::from_stage(1)),
-            ("unmerged", Mode::File, two, Flags::from_stage(2)),
-            ("wanted", Mode::File, two, added),
-        ],
-    )?;
-    let mut seen = Vec::new(alloc);
-    for change in changed_entries(alloc, &head, &now)? {
-        seen.push((change.path.as_bytes(), change.letter))?;
-    }
-    let changed: [(&[u8], Letter); 4] = [
-        (b"mode", Letter::Modified),
-        (b"n", Letter::Added),
-        (b"other", Letter::Modified),
-        (b"type", Letter::TypeChanged),
+    let plain = Flags::from_stage(0);
+    let rows = [
+        ("kept", Mode::File, one, plain),
+        ("mode", Mode::FileExecutable, one, plain),
+        ("n", Mode::Commit, two, plain),
+        ("other", Mode::File, two, plain),
+        ("type", Mode::File, one, plain),
+        ("unmerged", Mode::File, one, Flags::from_stage(1)),
+        ("unmerged", Mode::File, two, Flags::from_stage(2)),
+        ("wanted", Mode::File, two, Flags::INTENT_TO_ADD),
     ];
-    assert_eq!(rt; seen.as_slice(), &changed[..]);
-    let mut gone = Vec::new(alloc);
-    for change in deleted_files(alloc, &head, &now)? {
-        gone.push((change.path.as_bytes(), change.letter))?;
+    index(alloc, &rows)
+}
+
+/// Returns a line for each change.
+fn text_of(alloc: Global, changes: &[Change<'_>]) -> Result<Vec<u8>, AllocError> {
+    let mut text = Vec::new(alloc);
+    for change in changes {
+        let letter: &[u8] = match change.letter {
+            Letter::Added => b"A ",
+            Letter::Modified => b"M ",
+            Letter::TypeChanged => b"T ",
+            Letter::Deleted => b"D ",
+        };
+        text.extend_from_slice(letter)?;
+        text.extend_from_slice(change.path.as_bytes())?;
+        text.extend_from_slice(b"\n")?;
     }
-    let deleted: [(&[u8], Letter); 2] = [(b"gone", Letter::Deleted), (b"wanted", Letter::Deleted)];
-    assert_eq!(rt; gone.as_slice(), &deleted[..]);
+    Ok(text)
+}
+
+// The lines are those of `git status --porcelain` of git 2.39 for these files and entries, without the second column.
+#[test]
+fn letters_are_gits(rt: HostRuntime) -> Result<(), Fail> {
+    let alloc = rt.alloc();
+    let head = committed(alloc)?;
+    let index = staged(alloc)?;
+    let changed = changed_entries(alloc, &head, &index)?;
+    let text = text_of(alloc, changed.as_slice())?;
+    assert_eq!(rt;
+        text.as_slice(),
+        b"M mode\nA n\nM other\nT type\n".as_slice()
+    );
+    let deleted = deleted_files(alloc, &head, &index)?;
+    let text = text_of(alloc, deleted.as_slice())?;
+    assert_eq!(rt; text.as_slice(), b"D gone\nD wanted\n".as_slice());
     Ok(())
 }
 

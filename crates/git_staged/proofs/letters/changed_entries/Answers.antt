@@ -3,7 +3,7 @@ use Rattle.std.proofs.Math.Seq.{take-suc}
 use Rattle.std.proofs.lemmas.List.{take_all}
 use Rattle.bstr.specs.BStr.{bstr_bytes}
 use Rattle.status_index.specs.declared.entry.Entry.{Entry}
-use Rattle.status_index.specs.Entries.{IndexEntry, index_entry}
+use Rattle.status_index.specs.Entries.{index_entry}
 use Rattle.status_index.specs.States.{backing_of, index_of}
 use Rattle.git_staged.specs.declared.letters.Letter.{Letter}
 use Rattle.git_staged.specs.Letters.{and_change, changes, letter_of}
