@@ -28,9 +28,9 @@ enum Difference {
 }
 
 /// A path that differs from HEAD.
-#[derive(Clone, Copy)]
-struct Line<'a> {
-    path: BStr<'a>,
+#[derive(Drop)]
+struct Line {
+    path: Vec<u8>,
     difference: Difference,
 }
 
@@ -79,23 +79,21 @@ fn print_staged<R: AllocGlobal + Env + Files, O: io::Write>(
 where
     R::File: FileExt,
 {
-    let alloc = rt.alloc();
-    let found = head_of_repository(rt, repository, index)?;
-    let head = match &found {
-        Head::SameAsIndex => index,
+    let head = match head_of_repository(rt, repository, index)? {
+        Head::SameAsIndex => {
+            check_either(rt.alloc(), index, index, selected)?;
+            return Ok(0);
+        }
         Head::Files(files) => files,
     };
-    check_either(alloc, index, head, selected)?;
-    let lines = match found {
-        Head::SameAsIndex => Vec::new(alloc),
-        Head::Files(_) => lines_of(alloc, head, index, selected)?,
-    };
+    check_either(rt.alloc(), index, &head, selected)?;
+    let lines = lines_of(rt.alloc(), &head, index, selected)?;
     if !request.quiet {
         let style = LineStyle {
             zero: request.zero,
             quote_all: repository.settings.quote_path,
         };
-        let text = text_of(alloc, style, &lines)?;
+        let text = text_of(rt.alloc(), style, &lines)?;
         if let Err(error) = print_all(&text, output) {
             return Err(Refused::Index(Failure::Output(error)));
         }
@@ -122,28 +120,40 @@ fn check_either(
 }
 
 /// Returns the selected paths that differ, in order.
-fn lines_of<'a>(
+fn lines_of(
     alloc: Global,
-    head: &'a State,
-    index: &'a State,
+    head: &State,
+    index: &State,
     selected: &[Selected<'_>],
-) -> Result<Vec<Line<'a>>, AllocError> {
+) -> Result<Vec<Line>, AllocError> {
+    let mut lines = Vec::new(alloc);
+    let changed = changed_entries(alloc, head, index)?;
+    for change in &changed {
+        push_change(alloc, &mut lines, index, change)?;
+    }
+    let deleted = deleted_files(alloc, head, index)?;
+    for change in &deleted {
+        push_change(alloc, &mut lines, index, change)?;
+    }
+    push_conflicts(alloc, &mut lines, index)?;
     let nothing = State::new(alloc, index.timestamp());
     let tops = tops_of(alloc, selected)?;
     let paths = Paths {
         tops: &tops,
         left_out: &nothing,
     };
-    let mut lines = Vec::new(alloc);
-    push_changes(&mut lines, index, changed_entries(alloc, head, index)?)?;
-    push_changes(&mut lines, index, deleted_files(alloc, head, index)?)?;
-    push_conflicts(&mut lines, index)?;
-    lines.retain(|line| {
-        let is_submodule = has_submodule(index, line.path) || has_submodule(head, line.path);
-        paths.includes(line.path, is_submodule)
-    });
-    lines.sort_by(|a, b| a.path.cmp(&b.path))?;
-    Ok(lines)
+    let mut found = Vec::new(alloc);
+    for line in lines {
+        let path = BStr::new(line.path.as_slice());
+        if paths.includes(
+            path,
+            has_submodule(index, path) || has_submodule(head, path),
+        ) {
+            found.push(line)?;
+        }
+    }
+    found.sort_by(|a, b| a.path.as_slice().cmp(b.path.as_slice()))?;
+    Ok(found)
 }
 
 /// Returns whether an index has a submodule at a path.
@@ -154,26 +164,25 @@ fn has_submodule(index: &State, path: BStr<'_>) -> bool {
         .any(|entry| entry.mode.is_submodule())
 }
 
-/// Adds a line for each change, except at the path of a conflict.
-fn push_changes<'a>(
-    lines: &mut Vec<Line<'a>>,
+/// Adds the line of a change, except at the path of a conflict.
+fn push_change(
+    alloc: Global,
+    lines: &mut Vec<Line>,
     index: &State,
-    changes: Vec<Change<'a>>,
+    change: &Change<'_>,
 ) -> Result<(), AllocError> {
-    for change in changes {
-        let mut entries = index.entries_at(change.path).iter();
-        if !entries.any(|entry| entry.stage_raw() != 0) {
-            lines.push(Line {
-                path: change.path,
-                difference: Difference::Staged(change.letter),
-            })?;
-        }
+    let entries = index.entries_at(change.path);
+    if !entries.iter().any(|entry| entry.stage_raw() != 0) {
+        lines.push(Line {
+            path: Vec::from_slice(alloc, change.path.as_bytes())?,
+            difference: Difference::Staged(change.letter),
+        })?;
     }
     Ok(())
 }
 
 /// Adds a line for each conflict of an index.
-fn push_conflicts<'a>(lines: &mut Vec<Line<'a>>, index: &'a State) -> Result<(), AllocError> {
+fn push_conflicts(alloc: Global, lines: &mut Vec<Line>, index: &State) -> Result<(), AllocError> {
     let (entries, backing) = (index.entries(), index.path_backing());
     let mut last = BStr::new(b"");
     for (at, entry) in entries.iter().enumerate() {
@@ -185,7 +194,7 @@ fn push_conflicts<'a>(lines: &mut Vec<Line<'a>>, index: &'a State) -> Result<(),
             && let Some((conflict, _, _)) = Conflict::try_from_entry(entries, backing, at, path)
         {
             lines.push(Line {
-                path,
+                path: Vec::from_slice(alloc, path.as_bytes())?,
                 difference: Difference::Conflict(conflict),
             })?;
         }
@@ -195,17 +204,18 @@ fn push_conflicts<'a>(lines: &mut Vec<Line<'a>>, index: &'a State) -> Result<(),
 }
 
 /// Returns the text of lines.
-fn text_of(alloc: Global, style: LineStyle, lines: &[Line<'_>]) -> Result<Vec<u8>, AllocError> {
+fn text_of(alloc: Global, style: LineStyle, lines: &[Line]) -> Result<Vec<u8>, AllocError> {
     let mut text = Vec::new(alloc);
     for line in lines {
+        let path = BStr::new(line.path.as_slice());
         match line.difference {
-            Difference::Staged(letter) => push_staged(&mut text, style, line.path, letter)?,
+            Difference::Staged(letter) => push_staged(&mut text, style, path, letter)?,
             Difference::Conflict(summary) => {
                 let status = EntryStatus::<(), ()>::Conflict {
                     summary,
                     entries: [None, None, None],
                 };
-                push_line(&mut text, style, line.path, &status)?;
+                push_line(&mut text, style, path, &status)?;
             }
         }
     }
