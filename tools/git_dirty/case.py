@@ -40,10 +40,10 @@ class Dirty(Case):
         return self.run_in([self.PROGRAM, *words], folder, **settings)
 
     def git_lines(self, *words, folder=None, **settings):
-        """Returns git's lines as the program prints them with these words."""
-        ran = self.run_in([*STATUS_OF_HEADS, *(word for word in words if word != "--staged")], folder, **settings)
+        """Returns git's lines as the program prints them."""
+        ran = self.run_in([*STATUS_OF_HEADS, *words], folder, **settings)
         self.assertEqual((ran.returncode, ran.stderr), (0, b""))
-        return as_dirty(ran.stdout, b"\0" if "-z" in words else b"\n", "--staged" in words)
+        return as_dirty(ran.stdout)
 
     def assert_ends(self, ran, lines):
         """Asserts that the program printed these lines and nothing else, with their exit status."""

@@ -67,7 +67,8 @@ class Refresh(Dirty):
 
     def is_stored(self, name, kind="sha1"):
         """Returns whether the index has the stat of a file, whose mode may be another by core.fileMode or core.symlinks."""
-        stored, found = (stat[:MODE] + stat[MODE + 1 :] for stat in (self.stored(name, kind), stat_of(self.path(name))))
+        stats = self.stored(name, kind), stat_of(self.path(name))
+        stored, found = (stat[:MODE] + stat[MODE + 1 :] for stat in stats)
         return stored == found
 
     def stored(self, name, kind="sha1"):
@@ -106,7 +107,8 @@ class Refresh(Dirty):
         copy, found = os.path.join(self.room, "shown"), []
         for words in self.SHOWN:
             shutil.copy2(self.place(), copy)
-            found.append(self.run_in(["git", "--no-optional-locks", *words], **settings, GIT_INDEX_FILE=copy))
+            command = ["git", "--no-optional-locks", *words]
+            found.append(self.run_in(command, **settings, GIT_INDEX_FILE=copy))
         self.assertEqual([ran.returncode for ran in found], [0] * len(found))
         return [ran.stdout for ran in found]
 
@@ -131,8 +133,9 @@ class Refresh(Dirty):
         reader, writer = os.pipe()
         self.addCleanup(os.close, reader)
         size = fcntl.fcntl(writer, fcntl.F_SETPIPE_SZ, 4096)
-        how = {"cwd": self.top, "stdout": writer, "stderr": subprocess.PIPE, "env": {**os.environ, **SETTINGS}}
-        child = subprocess.Popen([GIT_DIRTY, "--refresh", *words], **how)
+        child = subprocess.Popen(
+            [GIT_DIRTY, "--refresh", *words], cwd=self.top, stdout=writer, stderr=subprocess.PIPE, env={**os.environ, **SETTINGS}
+        )
         os.close(writer)
         self.addCleanup(child.stderr.close)
         self.addCleanup(child.kill)

@@ -33,7 +33,7 @@ class Failures(Dirty):
     def test_help_has_an_example(self):
         ran = self.ran("--help", folder="/")
         self.assertEqual((ran.returncode, ran.stderr), (0, b""))
-        for word in ("git dirty", "-C", "-z", "-q", "--refresh", "--staged", "--threads", "--stats", "--version", "git LFS"):
+        for word in ("git dirty", "-C", "-z", "-q", "--refresh", "--threads", "--stats", "--version", "git LFS"):
             self.assertIn(word, ran.stdout.decode())
         self.assertEqual(self.ran("-h", folder="/").stdout, ran.stdout)
 
@@ -54,7 +54,6 @@ class Memory(Dirty):
         os.symlink("foo", self.path("l"))
         self.make_module("m")
         self.git("add", ".")
-        self.commit()
         self.put_entries(*(("100644", self.blob(), stage, "conflict") for stage in (1, 2, 3)))
         self.commit(folder="m")
         for name in ("a", "e é"):
@@ -87,7 +86,8 @@ class Memory(Dirty):
             while True:
                 at += 1
                 ended, letters = starved.run(words, at, on, **SETTINGS)
-                if wrong := self.wrong(calm, ended, letters, on):
+                wrong = self.wrong(calm, ended, letters, on)
+                if wrong:
                     found.append(f"call {at}: {wrong}: {ended.text()}")
                 if not letters:
                     return at - 1, found
@@ -99,11 +99,5 @@ class Memory(Dirty):
             self.assertGreater(calls, 15)
 
     def test_each_allocation_is_refused(self):
-        for words in (["--threads", "1"], ["--threads", "2"], ["--threads", "1", "-z", "a", "d", "m"], ["--staged"]):
+        for words in (["--threads", "1"], ["--threads", "2"], ["--threads", "1", "-z", "a", "d", "m"]):
             self.assert_swept(*words)
-
-    def test_one_thread_starts_no_other(self):
-        self.add(*(f"{folder}/{name}" for folder in range(60) for name in "ab"))
-        with tempfile.TemporaryDirectory() as room, Starved(GIT_DIRTY, room) as starved:
-            letters = [starved.run(["-C", self.top, "--threads", limit], **SETTINGS)[1] for limit in "124"]
-        self.assertEqual(["t" in found for found in letters], [False, True, True])

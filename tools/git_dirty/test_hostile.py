@@ -61,7 +61,8 @@ class Watched(Dirty):
                 file.seek(0)
             ended = Ended(child.returncode, out.read(), fault.read())
         self.assertFalse(is_killed, f"it hangs, or takes too much memory: {ended.text()}")
-        return ended, {os.path.realpath(os.path.join(self.top, line)) for line in os.fsdecode(read(log)).splitlines()}
+        lines = os.fsdecode(read(log)).splitlines()
+        return ended, {os.path.realpath(os.path.join(self.top, line)) for line in lines}
 
     def assert_opens_inside(self, opened, *others):
         """Asserts that of the test's folder only these files and what is in the worktree were opened."""
@@ -220,7 +221,8 @@ class ReplacedFiles(Watched):
                 if kind in ("unreadable", "gone") and not os.path.exists(place) or (name, kind) == ("d/b", "a named pipe"):
                     continue  # A pipe in place of a tracked file is a row of rows.txt.
                 with self.subTest(name=name, kind=kind), self.replaced(place, kind):
-                    gits = None if kind == "a named pipe" and name not in self.WITHOUT_WAIT else self.answer()
+                    is_waiting = kind == "a named pipe" and name not in self.WITHOUT_WAIT
+                    gits = None if is_waiting else self.answer()
                     gone = gits if kind == "gone" else gone
                     self.assert_is(gits if gits is not None or not self.PASSED.search(name) else gone, name, kind)
 

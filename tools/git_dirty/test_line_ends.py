@@ -50,7 +50,8 @@ class Contents(LineEnds):
             for after in (b"\x1a", b"x\x1a", b"\x1a\x1a", b"\x1ax", b"\x1a\r\n", b"\x1a\n", b"\x1a\r")}
     ENDS = ["", "\n", "\r", "\r\n", "\n\r", "\r\r\n", "\r\n\r", "\r\n\n", "\r\n\r\n", "a", "a\n", "a\r", "a\r\n", "a\r\nb"]
     ENDS += ["a\r\nb\r", "a\nb\r\n", "a\r\nb\n", "a\rb\r\n", "a\r\nb\rc\n", "a\r\r\nb\r\n", "a\0b\r\n", "\0", "\r\n\0"]
-    ENDS += ["é\r\n", "\ufeffa\r\n", *("x" * 100_000 + end for end in ("\n", "\r\n", "\r", "\r\n\r", "\r\n\0"))]
+    ENDS += ["é\r\n", "\ufeffa\r\n"]
+    ENDS += ["x" * 100_000 + end for end in ("\n", "\r\n", "\r", "\r\n\r", "\r\n\0")]
     ENDS += ["1234567\r\n" * 12_000, "\r\n" * 50_000, "\n" * 50_000 + "\r\n"]
     # A CRLF, or a CR alone, at the edge of what may be read at once.
     ENDS += ["x" * ((1 << power) - 1) + end for power in range(9, 18) for end in ("\r\ny\n", "\ry\r\n")]

@@ -73,7 +73,8 @@ class Drawn(Refresh):
     def assert_racy(self, place, old, gits, nanos):
         """Asserts that git left a racy entry, of which it doesn't compare all of the stat, and that all is stored now."""
         self.assertEqual(gits, old)
-        self.assertGreaterEqual(int(re.fullmatch(r"  mtime: (\d+):\d+", old[2])[1]), nanos // 10**9)
+        second = int(re.fullmatch(r"  mtime: (\d+):\d+", old[2])[1])
+        self.assertGreaterEqual(second, nanos // 10**9)
         self.assertTrue(self.is_stored(place[1].decode(), self.kind))
 
     def freed(self, **settings):

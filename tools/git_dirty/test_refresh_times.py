@@ -17,8 +17,10 @@ class Times(Careful):
     UNRACY = "its time is in the first second of 1970, when no entry is racy to git"
 
     def partial(self):
-        """Makes repositories of which a refresh compares a part, with an index that is later than the files. Yields their
-        names, and the words of a refresh."""
+        """Makes repositories of which a refresh compares a part, with an index that is later than the files.
+
+        Yields their names, and the words of a refresh.
+        """
         rows = {"paths": lambda: None, "assume-valid": lambda: self.git("update-index", "--assume-unchanged", "d/b")}
         rows["skip-worktree"] = lambda: self.git("update-index", "--skip-worktree", "d/b")
         rows["a filter"] = lambda: self.write(".git/info/attributes", "b filter=x\n")
@@ -115,7 +117,8 @@ class Times(Careful):
 
     def test_the_time_is_before_the_first_comparison(self):
         self.add_many()
-        before, (child, reader) = time.time_ns(), self.start()
+        before = time.time_ns()
+        child, reader = self.start()
         between = time.time_ns()
         time.sleep(0.1)
         self.end(child, reader)
@@ -179,7 +182,8 @@ class Times(Careful):
         for _ in range(20):
             self.wait()
             self.write("a", "foo")
-            second, (child, reader) = int(os.stat(self.path("a")).st_mtime), self.start()
+            second = int(os.stat(self.path("a")).st_mtime)
+            child, reader = self.start()
             self.write("a", "bar")
             if int(os.stat(self.path("a")).st_mtime) == second:
                 return child, reader, second

@@ -70,7 +70,8 @@ class Reported(Dirty):
         for spoiler in ["cat out; exit $status", *self.SPOILERS]:
             with self.subTest(spoiler):
                 write(place, f'#!/bin/sh\n"{GIT_DIRTY}" "$@" >"{place}.out"\nstatus=$?\n{spoiler.replace("out", place + ".out")}\n')
-                self.assertEqual(self.is_right(f"{self.STEPS}? -> {self.RIGHT[0]}\n", place), spoiler not in self.SPOILERS)
+                is_right = self.is_right(f"{self.STEPS}? -> {self.RIGHT[0]}\n", place)
+                self.assertEqual(is_right, spoiler not in self.SPOILERS)
 
     def test_a_malformed_file_is_an_error(self):
         for text in ("$ true\n", "== a\n% x\n", "== a\n$ true\n", "== a\n? ->\n== a\n? ->\n", "== a\n  more\n", "== a\nfor b: c ¦ c\n? ->\n"):

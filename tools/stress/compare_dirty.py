@@ -40,7 +40,8 @@ class Comparer:
     """Runs git and the program over one drawn repository."""
 
     def __init__(self, git, program, drawing):
-        self.git, self.program, self.drawing, self.top = git, program, drawing, drawing.top
+        self.git, self.program, self.drawing = git, program, drawing
+        self.top = drawing.top
 
     def lines(self, folder, *words):
         """Returns git's lines as the program prints them, and what it may print to standard error. git has to succeed."""
@@ -89,7 +90,8 @@ class Comparer:
             ended = self.program.run(words, {**self.drawing.environment, "GIT_LITERAL_PATHSPECS": "1"})
             printed = b"" if lines is None or "-q" in words else lines
             status = 2 if lines is None else int(lines != b"")
-            if (ended.status, ended.out) != (status, printed) or not re.search(notes, ended.fault):
+            is_same = (ended.status, ended.out) == (status, printed) and re.search(notes, ended.fault)
+            if not is_same:
                 drawn_by = "; ".join(self.drawing.notes)
                 yield f"seed {self.drawing.seed}, {words}: {ended.text()}\n  git: {printed!r}\n  drawn: {drawn_by}"
 
@@ -101,7 +103,8 @@ def compared(seeds, keep=None, kind=Drawing, program=GIT_DIRTY):
     with room_at as room, Runner(shutil.which("git") or "git", 20) as git, Runner(program, 20) as ours:
         for drawing in drawn(kind, seeds, room):
             comparer = Comparer(git, ours, drawing)
-            columns.update(line[:2].decode() for line in comparer.lines(drawing.top)[0].split(b"\n")[:-1])
+            lines = comparer.lines(drawing.top)[0].split(b"\n")[:-1]
+            columns.update(line[:2].decode() for line in lines)
             columns["files"] += len(drawing.paths)
             differences = [*comparer.differences()]
             found += differences

@@ -93,7 +93,8 @@ class Drawing:
         self.flag()
 
     def drawn_paths(self):
-        drawn = {self.random.choice(FOLDERS) + self.random.choice(NAMES) for _ in range(self.random.randrange(2, 22))}
+        count = self.random.randrange(2, 22)
+        drawn = {self.random.choice(FOLDERS) + self.random.choice(NAMES) for _ in range(count)}
         return sorted(path for path in drawn if not any(other.startswith(path + "/") for other in drawn))
 
     def configure(self, more):
@@ -142,7 +143,8 @@ class Drawing:
 
     def put_entries(self, entries):
         """Puts entries into the index by modes, ids, stages and paths. Mode 0 removes a path."""
-        if lines := "".join(f"{mode} {name} {stage}\t{path}\0" for mode, name, stage, path in entries):
+        lines = "".join(f"{mode} {name} {stage}\t{path}\0" for mode, name, stage, path in entries)
+        if lines:
             self.git("update-index", "-z", "--index-info", stdin=lines.encode())
 
     def free_path(self, name):
@@ -194,7 +196,8 @@ class Drawing:
         place = os.path.join(folder, ".git")
         if form == "file":
             place = self.path(f".git/modules/{len(self.notes)}")
-            write(os.path.join(folder, ".git"), f"gitdir: {os.path.relpath(place, folder) if self.chance(0.5) else place}\n")
+            up = os.path.relpath(place, folder) if self.chance(0.5) else place
+            write(os.path.join(folder, ".git"), f"gitdir: {up}\n")
             form = self.random.choice(["id", "ref"])
         if form == "broken":
             os.mkdir(place)
@@ -385,7 +388,8 @@ class Drawing:
     def some_folder(self):
         """Returns a folder of the worktree that is there."""
         above = {os.path.dirname(path) for path in self.paths if self.is_reached(path)}
-        return self.random.choice([path for path in sorted(above) if os.path.isdir(self.path(path))] or [""])
+        found = [path for path in sorted(above) if os.path.isdir(self.path(path))]
+        return self.random.choice(found or [""])
 
 
 def relative(path, folder):

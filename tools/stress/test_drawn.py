@@ -90,7 +90,8 @@ class Drawn(unittest.TestCase):
 
     def test_drawn_files_are_converted_as_by_git(self):
         """Each repository has about 38 files."""
-        columns = self.run_seeds(partial(compare_dirty.compared, kind=AttributeDrawing), ATTRIBUTES, compare_dirty.PART)
+        compared = partial(compare_dirty.compared, kind=AttributeDrawing)
+        columns = self.run_seeds(compared, ATTRIBUTES, compare_dirty.PART)
         self.assertGreater(min(columns[" M"], columns["files"] - columns[" M"]), 10 * ATTRIBUTES)
 
     def test_mutated_index_files_are_refused_or_reported_as_by_git(self):

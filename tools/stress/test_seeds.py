@@ -71,9 +71,10 @@ class Seeds(unittest.TestCase):
             self.assertGreater(len({repr(case) for case in cases}), len(cases) * 9 // 10)
 
     def test_a_seed_always_makes_the_same_case(self):
+        makers = {"histories": history}
         with tempfile.TemporaryDirectory() as room:
             base = mutate_index.Base(f"{room}/base", "sha1")
-            makers = {"histories": history, "index files": lambda seed: mutate_index.mutated(random.Random(seed), base)}
+            makers["index files"] = lambda seed: mutate_index.mutated(random.Random(seed), base)
             for name, make in makers.items():
                 self.assert_same(name, partial(map, make, range(200)))
             for kind in (Drawing, AttributeDrawing):

@@ -32,15 +32,15 @@ def status_words(top, *words):
     return ["--literal-pathspecs", "-C", top, "-c", "core.preloadIndex=false", *STATUS_OF_HEADS[1:], *words]
 
 
-def as_dirty(printed, end=b"\n", is_staged=False):
-    """Returns git's lines as the program prints them: those with a second column, or with a first one if that is staged."""
+def as_dirty(printed, end=b"\n"):
+    """Returns git's lines as the program prints them: the index isn't compared with HEAD."""
     found = []
     for line in printed.split(end)[:-1]:
-        front = line[:1] + b" " if is_staged else b" " + line[1:2]
-        front = line[:2] if line[:2] in CONFLICTS else front
-        if front != b"  ":
-            found.append(front + line[2:] + end)
-    return b"".join(found)
+        if line[:2] in CONFLICTS:
+            found.append(line)
+        elif line[1:2] != b" ":
+            found.append(b" " + line[1:])
+    return b"".join(line + end for line in found)
 
 
 def wait_for_later_second():

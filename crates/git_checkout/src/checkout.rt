@@ -8,7 +8,6 @@ use crate::refresh::Refresh;
 use crate::refused::{Illformed, Refused};
 use crate::request::{Request, Selected, selected_by};
 use crate::selection::{Exceptions, check_each, tops_of, untracked_of};
-use crate::staged::run_staged;
 use git_attributes::AttributeFiles;
 use git_explain::{Wanted, run_explain};
 use git_repository::{
@@ -25,16 +24,14 @@ use status_index::{Moment, State, stat};
 use std::alloc::{AllocError, Global};
 use std::env;
 use std::io::{self, Write as _};
-use std::os::unix::fs::FileExt;
 use std::path::Path;
 use std::rt::{Env, Files};
 use std::sync::Wait;
 use std::sync::atomic::{AtomicBool, Ordering};
 use std::thread::Threads;
-use text_output::OutputError;
 
 /// The number of entries of a piece of work if the first difference ends the call. Each thread has at most 8 pieces before
-/// the call first sees that it may end: some 2,000 entries with the usual 4 threads.
+/// the call sees that it may end: some 2,000 entries with the usual 4 threads.
 const SMALL_CHUNK: usize = 64;
 
 /// The exit status of a failure.
@@ -50,7 +47,7 @@ pub fn is_dirty<R: AllocGlobal + Env + Files + Sync + Threads + Wait, E: io::Wri
     faults: &mut E,
 ) -> Option<bool>
 where
-    R::File: FileExt + Send,
+    R::File: Send,
     R::Dir: Send,
 {
     let request = Request {
@@ -65,8 +62,7 @@ where
 }
 
 /// Writes the lines of the checkout's differences to `output`, and notes and failures to `faults`. Returns the exit status of
-/// `git dirty`: 0 if nothing differs, 1 if an entry differs, and 2 after a failure. The differences are those from the index,
-/// or, if the request says so, those of the index from HEAD. A path that isn't UTF-8 fails by itself:
+/// `git dirty`: 0 if nothing differs, 1 if an entry differs, and 2 after a failure. A path that isn't UTF-8 fails by itself:
 /// all other lines are written, then a line for each such path, and the index isn't refreshed.
 pub fn run<R: AllocGlobal + Env + Files + Sync + Threads + Wait, O: io::Write, E: io::Write>(
     rt: &R,
@@ -75,17 +71,11 @@ pub fn run<R: AllocGlobal + Env + Files + Sync + Threads + Wait, O: io::Write, E
     faults: &mut E,
 ) -> u8
 where
-    R::File: FileExt + Send,
+    R::File: Send,
     R::Dir: Send,
 {
-    let ended = if request.staged {
-        run_staged(rt, request, output)
-    } else {
-        run_in_repository(rt, request, output, faults)
-    };
-    match ended {
+    match run_in_repository(rt, request, output, faults) {
         Ok(status) => status,
-        Err(Refused::Index(Failure::Output(OutputError::Closed))) => FAILED,
         Err(refused) => print_failure(rt.alloc(), refused, faults),
     }
 }
@@ -335,11 +325,7 @@ fn note<E: io::Write>(faults: &mut E, words: &'static str) {
 }
 
 /// Returns how a repository's entries are compared and printed.
-pub(crate) fn settings_of(
-    repository: &Repository,
-    request: &Request<'_>,
-    timestamp: Moment,
-) -> Settings {
+fn settings_of(repository: &Repository, request: &Request<'_>, timestamp: Moment) -> Settings {
     let found = &repository.settings;
     // A refresh compares all entries.
     let stops = request.quiet && !request.refresh;

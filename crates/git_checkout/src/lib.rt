@@ -3,19 +3,16 @@
 //!
 //! Read `request` first, the options of a call and the paths that it selects, and then `checkout`, the calls. They find
 //! the repository, read its index file (`index_file`) and choose its entries (`selection`). The contract of the comparison
-//! is that of `run_dirty` in the crate git_status. `staged` compares the index with the files of HEAD, which `head` reads; `replaced` checks that git has the same. `refresh` writes the new index file, and `refused` is why a call can't
+//! is that of `run_dirty` in the crate git_status. `refresh` writes the new index file, and `refused` is why a call can't
 //! begin.
 #![tactic(auto)]
 
 pub mod checkout;
-mod head;
 mod index_file;
 mod refresh;
 mod refused;
-mod replaced;
 pub mod request;
 mod selection;
-mod staged;
 
 pub use checkout::{is_dirty, run};
 pub use request::Request;

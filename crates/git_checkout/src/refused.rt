@@ -1,8 +1,6 @@
 //! Why a checkout isn't compared, or its index isn't refreshed.
 
-use git_objects::ObjectFault;
 use git_repository::{RepositoryError, Unread};
-use git_staged::TreeFault;
 use git_status::Failure;
 use git_status::lines::Quoted;
 use std::alloc::{AllocError, AllocFailed, Global};
@@ -36,17 +34,6 @@ pub enum Refused {
         /// Why it might.
         reason: &'static str,
     },
-    /// Objects aren't read as git reads them.
-    Objects {
-        /// Why they aren't.
-        reason: &'static str,
-    },
-    /// The object of HEAD isn't a commit.
-    NoCommit,
-    /// HEAD's commit can't be read.
-    Object(ObjectFault),
-    /// The tree of HEAD's commit can't be read.
-    Tree(TreeFault),
     /// The time of the index file isn't known.
     Clock,
     /// Memory ran out.
@@ -104,13 +91,6 @@ impl fmt::Display for Refused {
                 f,
                 "the index isn't refreshed, since {reason}: use git update-index --refresh"
             ),
-            Refused::Objects { reason } => write!(
-                f,
-                "the index isn't compared with HEAD, since {reason}: use git diff --cached"
-            ),
-            Refused::NoCommit => f.write_str("HEAD isn't a commit"),
-            Refused::Object(fault) => write!(f, "can't read HEAD's commit: {fault}"),
-            Refused::Tree(fault) => write!(f, "can't read the tree of HEAD's commit: {fault}"),
             Refused::Clock => f.write_str("the time of the index file isn't known"),
             Refused::Memory => f.write_str("out of memory"),
         }
@@ -132,24 +112,6 @@ impl<T: Drop> From<AllocFailed<T>> for Refused {
 impl From<RepositoryError> for Refused {
     fn from(error: RepositoryError) -> Refused {
         Refused::Repository(error)
-    }
-}
-
-impl From<ObjectFault> for Refused {
-    fn from(fault: ObjectFault) -> Refused {
-        match fault {
-            ObjectFault::Memory => Refused::Memory,
-            fault => Refused::Object(fault),
-        }
-    }
-}
-
-impl From<TreeFault> for Refused {
-    fn from(fault: TreeFault) -> Refused {
-        match fault {
-            TreeFault::Memory => Refused::Memory,
-            fault => Refused::Tree(fault),
-        }
     }
 }
 

@@ -23,8 +23,6 @@ pub struct Request<'a> {
     pub explain: bool,
     /// Whether explanations are objects of JSON.
     pub json: bool,
-    /// Whether the index is compared with HEAD alone, and not with the worktree.
-    pub staged: bool,
     /// Whether the process may make the worktree's top its working folder. This is faster, since the system then has fewer
     /// steps to each file. It changes the meaning of all relative paths, also for other threads, and stays so.
     pub enter: bool,
@@ -45,7 +43,6 @@ impl<'a> Request<'a> {
             stats: false,
             explain: false,
             json: false,
-            staged: false,
             enter: false,
             threads: None,
             paths: Vec::new(alloc),

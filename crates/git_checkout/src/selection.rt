@@ -97,11 +97,7 @@ fn has_node<W: Worktree>(worktree: &W, one: &Selected<'_>) -> bool {
 }
 
 /// Returns whether an entry is at a path or below it. At the path it has to be a submodule's if only a folder is selected.
-pub(crate) fn has_entry(
-    alloc: Global,
-    index: &State,
-    one: &Selected<'_>,
-) -> Result<bool, AllocError> {
+fn has_entry(alloc: Global, index: &State, one: &Selected<'_>) -> Result<bool, AllocError> {
     let path = BStr::new(one.path.as_bytes());
     let mut there = index.entries_at(path).iter();
     if there.any(|entry| !one.is_folder || entry.mode.is_submodule()) {

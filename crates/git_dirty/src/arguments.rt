@@ -12,15 +12,14 @@ const EXAMPLES: &str = "\
 Examples:
   git dirty            list the tracked files that differ from the index
   git dirty -q src     only set the exit status, for the files below src
-  git dirty --staged   list what is staged
   git dirty --explain README.md
                        say why README.md is listed, or isn't
 
 Exit status: 0 if nothing differs, 1 if something does, 2 after a failure.
-A line has the letters of git status --porcelain. Without --staged the index
-isn't compared with a commit, so the first letter is a space, except for a
-conflict, and a change that is staged doesn't count. A path that selects
-nothing is a failure, and so is one with wildcards.
+A line has the letters of git status --porcelain. The index isn't compared with
+a commit, so the first letter is a space, except for a conflict, and a change
+that is staged doesn't count. A path that selects nothing is a failure, and so
+is one with wildcards.
 Files with filters (git LFS), ident or an encoding aren't compared as git does:
 don't rely on this command there.";
 
@@ -44,7 +43,6 @@ pub fn request_of<'a>(alloc: Global, matches: &ArgMatches<'a>) -> Result<Request
         stats: matches.get_flag("stats"),
         explain: matches.get_flag("explain"),
         json: matches.get_flag("json"),
-        staged: matches.get_flag("staged"),
         enter: true,
         threads: matches.get_one("threads"),
         paths,
@@ -66,7 +64,6 @@ pub fn command_line<'a>(alloc: Global) -> Result<Command<'a>, AllocError> {
         .arg(flag(alloc, "zero", "End lines with a NUL, and don't quote paths").short('z'))?
         .arg(quiet(alloc))?
         .arg(refresh(alloc))?
-        .arg(staged(alloc)?)?
         .arg(explain(alloc)?)?
         .arg(json(alloc)?)?
         .arg(threads(alloc))?
@@ -146,23 +143,6 @@ fn explain<'a>(alloc: Global) -> Result<Arg<'a>, AllocError> {
     .conflicts_with("zero")?
     .conflicts_with("quiet")?
     .conflicts_with("refresh")?
-    .conflicts_with("stats")
-}
-
-/// Returns the flag that compares with HEAD.
-///
-/// # Errors
-/// Out of memory.
-fn staged<'a>(alloc: Global) -> Result<Arg<'a>, AllocError> {
-    flag(
-        alloc,
-        "staged",
-        "List what is staged: how the index differs from HEAD",
-    )
-    .long("staged")
-    .conflicts_with("refresh")?
-    .conflicts_with("explain")?
-    .conflicts_with("json")?
     .conflicts_with("stats")
 }
 

@@ -7,7 +7,6 @@ use crate::arguments::{command_line, request_of};
 use clap::Error;
 use clap::error::ErrorKind;
 use git_status::print_failure;
-use std::os::unix::fs::FileExt;
 use std::process::ExitCode;
 use std::rt::{Env, Files};
 use std::sync::Wait;
@@ -26,7 +25,7 @@ fn run<R: AllocGlobal + Env + Eprint + Files + Print + Sync + Threads + Wait, E:
     faults: &mut E,
 ) -> u8
 where
-    R::File: FileExt + Send,
+    R::File: Send,
     R::Dir: Send,
 {
     let words = match words_of(rt) {
