@@ -12,7 +12,7 @@ import sys
 from pathlib import Path
 
 TOP = Path(__file__).resolve().parents[1]
-NAME = r"git\-dirty \- list the tracked files of a git worktree that differ from the index"
+NAME = r"git\-dirty \- list the tracked files of a git worktree that differ from HEAD or from the index"
 ITEM = re.compile(r"(- |\d+\. )")
 # Marks of inline code, bold and italic text.
 INLINE = re.compile(r"`([^`]+)`|\*\*(.+?)\*\*|(?<!\*)\*([^*]+)\*(?!\*)")

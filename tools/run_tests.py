@@ -59,8 +59,7 @@ def said(result):
 
 def main(words):
     if TRIED not in words and may_read_all():
-        command = [*ORDINARY, sys.executable, os.path.abspath(__file__), TRIED, *words]
-        return subprocess.run(command, check=False).returncode
+        return subprocess.run([*ORDINARY, sys.executable, os.path.abspath(__file__), TRIED, *words], check=False).returncode
     names = [word for word in words if word != TRIED]
     loader = unittest.defaultTestLoader
     if names[:1] == ["-k"]:

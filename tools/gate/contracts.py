@@ -22,8 +22,7 @@ WITHOUT_CALLERS = ("program_tests", "status_callers", "status_tests")
 STRING = r'b?"(?:\\.|[^"\\])*"'
 # What a scan passes over whole: a string, a character, a lifetime, a comment.
 PASSED = re.compile(rf"{STRING}|b?'(?:\\.[^']*|[^'\\])'|'\w+|//[^\n]*", re.S)
-PAIRS = {"{": "}", "(": ")", "[": "]"}
-CLAUSE = re.compile(r"\b(ensures|requires)\b")
+PAIRS, CLAUSE = {"{": "}", "(": ")", "[": "]"}, re.compile(r"\b(ensures|requires)\b")
 HEAD = re.compile(
     r"(?P<pub>pub(?:\((?P<within>[^)]*)\))? +)?(?P<ghost>ghost +)?(?:unsafe +)?(?:const +(?=fn))?"
     r"(?P<word>fn|struct|enum|trait|impl|type|mod|use|const|static)\b"
@@ -60,8 +59,7 @@ def end_of(text, at):
     inside, closing = [PAIRS[text[at]]], None
     at += 1
     while inside:
-        passed = PASSED.match(text, at)
-        if passed:
+        if passed := PASSED.match(text, at):
             at = passed.end()
             continue
         if text[at] in PAIRS:
@@ -114,8 +112,7 @@ def items_in(text):
 
 def clause_word(text, start, at):
     """Returns the words right before a brace, back to the last bracket: a clause begins with one of them."""
-    before = text[start:at]
-    return re.split(r"[{}();]", before)[-1] if text[at] == "{" else ""
+    return re.split(r"[{}();]", text[start:at])[-1] if text[at] == "{" else ""
 
 
 def indented(lines):
@@ -199,10 +196,8 @@ def written_by(macro, body):
 
 def title_of(item, found):
     """Returns the name by which an item is sorted."""
-    if found["word"] == "impl":
-        return fold(item.head)
-    if found["word"] == "use":
-        return "names exported again"
+    if found["word"] in ("impl", "use"):
+        return fold(item.head) if found["word"] == "impl" else "names exported again"
     return NAME.search(fold(item.head)[found.end() :])[0]
 
 

@@ -88,12 +88,9 @@ class Contracts(unittest.TestCase):
 
     def test_a_change_of_a_contract_shows(self):
         for old, new in (
-            ("        ensures few { result ≤ self.now.first }", ""),
-            ("result ≤ self.now.first", "result ≤ self.now.first + 1"),
-            ("requires { 0 ≤", "requires { 1 ≤"),
-            ("ghost ordered: { first ≤ second }", "ghost ordered: { ⊤ }"),
-            ("derive(Clone, Copy)", "derive(Clone)"),
-            ("pub first: u32", "pub first: u64"),
+            ("        ensures few { result ≤ self.now.first }", ""), ("requires { 0 ≤", "requires { 1 ≤"),
+            ("result ≤ self.now.first", "result ≤ self.now.first + 1"), ("derive(Clone, Copy)", "derive(Clone)"),
+            ("ghost ordered: { first ≤ second }", "ghost ordered: { ⊤ }"), ("pub first: u32", "pub first: u64"),
         ):
             with self.subTest(old=old):
                 self.assertEqual(CODE.count(old), 1)

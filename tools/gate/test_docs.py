@@ -23,8 +23,7 @@ def text_of(*path):
 
 def anchors(page):
     """Returns the headings of a page as a link names them: in small letters, with dashes and without marks."""
-    headings = re.findall(r"^#+ (.*)$", page, re.M)
-    return {re.sub(r"[^\w\- ]", "", heading.lower()).replace(" ", "-") for heading in headings}
+    return {re.sub(r"[^\w\- ]", "", heading.lower()).replace(" ", "-") for heading in re.findall(r"^#+ (.*)$", page, re.M)}
 
 
 def texts_of(*patterns):
@@ -40,8 +39,7 @@ def pages():
 
 def has_code(text, code):
     """Returns whether these lines are in a text, which may indent all of them further, as code within a type."""
-    lines = textwrap.dedent(code)
-    return any("\n" + textwrap.indent(lines, " " * width) in "\n" + text for width in range(0, 16, 4))
+    return any("\n" + textwrap.indent(textwrap.dedent(code), " " * width) in "\n" + text for width in range(0, 16, 4))
 
 
 # Words
@@ -50,16 +48,13 @@ def has_code(text, code):
 def lines_of_comments(text, mark):
     """Yields the comments of a file of code, with the numbers of their lines. `mark` begins a comment."""
     for number, line in enumerate(text.splitlines(), 1):
-        comment = re.search(rf"(?:^|\s){mark}(?:\s(.*))?$", line)
-        if comment:
+        if comment := re.search(rf"(?:^|\s){mark}(?:\s(.*))?$", line):
             yield number, comment[1] or ""
 
 
 def paragraphs(lines):
-    """Joins lines of text, with their numbers, into paragraphs, by the number of the first line.
-
-    Code and the targets of links are left out.
-    """
+    """Joins lines of text, with their numbers, into paragraphs, by the number of the first line. Code and the targets of links
+    are left out."""
     texts, fence, first, before = {}, "", None, None
     for number, line in ((number, line.strip()) for number, line in lines):
         if line.startswith("```"):
@@ -171,8 +166,7 @@ class Docs(unittest.TestCase):
                 self.assertIn("\n" + example, "\n" + text_of(path))
 
     def test_the_names_for_callers_are_in_their_modules(self):
-        page = text_of("docs", "GUIDE.md")
-        rows = re.findall(r"^\| `(\w+)` \| (crate )?`([\w:]+)` \|", page, re.M)
+        rows = re.findall(r"^\| `(\w+)` \| (crate )?`([\w:]+)` \|", text_of("docs", "GUIDE.md"), re.M)
         self.assertGreater(len(rows), 30)
         for name, is_crate, module in rows:
             with self.subTest(name=name, module=module):
@@ -184,8 +178,7 @@ class Docs(unittest.TestCase):
                 top, _, inner = module.partition("::")
                 root = text_of("crates", "gix_status", "src", "lib.rt")
                 within = re.compile(rf"^pub mod {top} \{{\n(.*?)^\}}$", re.M | re.S)
-                own = within.search(root)
-                if own:
+                if own := within.search(root):
                     names = own[1]
                 else:
                     self.assertRegex(root, rf"\b{top}\b")
@@ -215,12 +208,10 @@ class Docs(unittest.TestCase):
         for trait, members in shown.items():
             module, _, name = trait.rpartition("::")
             with self.subTest(trait=trait):
-                there = [found for path, found in traits[name] if f"/{module}/" in path or not module]
-                self.assertEqual(there, [members])
+                self.assertEqual([found for path, found in traits[name] if f"/{module}/" in path or not module], [members])
 
     def test_each_note_on_proofs_has_code_of_the_file_that_is_linked_before_it(self):
-        page = text_of("docs", "PROVING.md")
-        for note in re.split(r"^### ", page, flags=re.M)[1:]:
+        for note in re.split(r"^### ", text_of("docs", "PROVING.md"), flags=re.M)[1:]:
             parts = re.split(r"^```\w+\n(.*?)^```$", note, flags=re.M | re.S)
             with self.subTest(note=note.partition("\n")[0]):
                 self.assertGreater(len(parts), 1)
@@ -231,16 +222,14 @@ class Docs(unittest.TestCase):
                     self.assertIn("\n" + code, "\n" + text_of("docs", *link))
 
     def test_each_note_on_proofs_is_in_the_table_at_the_top(self):
-        page = text_of("docs", "PROVING.md")
-        top, _, notes = page.partition("\n### ")
+        top, _, notes = text_of("docs", "PROVING.md").partition("\n### ")
         linked = re.findall(r"\]\(#([^)]*)\)", top)
         self.assertEqual(len(linked), len(set(linked)))
         headings = re.findall(r"^### .*$", "### " + notes, re.M)
         self.assertEqual(set(linked), anchors("\n".join(headings)) | {"notes-without-an-example"})
 
     def test_the_code_for_newcomers_is_of_the_file_that_is_linked_before_it(self):
-        page = text_of("CONTRIBUTING.md")
-        parts = re.split(r"^ *```(?:rust|antt|python|edit|row)\n(.*?)^ *```$", page, flags=re.M | re.S)
+        parts = re.split(r"^ *```(?:rust|antt|python|edit|row)\n(.*?)^ *```$", text_of("CONTRIBUTING.md"), flags=re.M | re.S)
         self.assertGreater(len(parts), 12)
         for before, code in zip(parts[::2], parts[1::2]):
             with self.subTest(code=code):
@@ -267,8 +256,7 @@ class Docs(unittest.TestCase):
                 self.assertEqual(" ".join(first.replace("//! ", "").split()), sentence)
 
     def test_the_files_that_architecture_names_are_there(self):
-        page = text_of("docs", "ARCHITECTURE.md")
-        named = set(re.findall(r"(?<![\w./])(?:crates|docs|tools|bench)/[\w./-]*\w/?", page))
+        named = set(re.findall(r"(?<![\w./])(?:crates|docs|tools|bench)/[\w./-]*\w/?", text_of("docs", "ARCHITECTURE.md")))
         self.assertGreater(len(named), 30)
         for path in named:
             with self.subTest(path=path):
@@ -290,8 +278,7 @@ class Docs(unittest.TestCase):
         functions = sum(len(re.findall(r"^ +def test_", text, re.M)) for text in texts_of("tools/*/*.py").values())
         tests = sum(text.count("#[test]") for text in texts_of("crates/*/src/**/*.rt").values())
         rows = sum(len(re.findall("^== ", text, re.M)) for text in texts_of("tools/status_program/rows/*.txt").values())
-        others = texts_of("tools/*/*rows.txt").values()
-        beside = sum(len(re.findall("^=[=!] ", text, re.M)) for text in others)
+        beside = sum(len(re.findall("^=[=!] ", text, re.M)) for text in texts_of("tools/*/*rows.txt").values())
         words = f"{tests} tests in Rattle, .* {rows} rows of text, .* {beside} rows next to git, .* {functions} test functions in Python"
         self.assertRegex(" ".join(text_of("docs", "EVIDENCE.md").split()), words)
 
@@ -332,8 +319,7 @@ class Words(unittest.TestCase):
         for most, words, instead in ceilings():
             there = places(words, texts)
             with self.subTest(words=words):
-                message = f"at {len(there)} places, and at most {most}; write: {instead}"
-                self.assertLessEqual(len(there), most, message)
+                self.assertLessEqual(len(there), most, f"at {len(there)} places, and at most {most}; write: {instead}")
             if len(there) < most:
                 print(f"tools/gate/words.txt: lower {most} to {len(there)}: {words}")
 

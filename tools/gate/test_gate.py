@@ -41,8 +41,7 @@ class Gate(unittest.TestCase):
                 if name not in without:
                     (commands / name).write_text(f"#!/bin/sh\n{words}\n", encoding="utf-8")
                     (commands / name).chmod(0o755)
-            environment = {"PATH": str(commands), "TMPDIR": room}
-            how = {"env": environment, "capture_output": True, "text": True, "timeout": 60}
+            how = {"env": {"PATH": str(commands), "TMPDIR": room}, "capture_output": True, "text": True, "timeout": 60}
             ran = subprocess.run([shutil.which("bash"), top / ".ci" / "run"], check=False, **how)
             self.assertEqual(ran.stderr, "")
             return ran.returncode, ran.stdout.splitlines()
@@ -53,9 +52,8 @@ class Gate(unittest.TestCase):
         self.assertEqual((status, lines[-1], told), (1, last, list(faults)))
 
     def test_it_counts_both(self):
-        status, lines = self.gate()
         printed = ["proving", "12 passed, 0 failed (5 minutes)", TESTS_WELL[6:-1], "19 passed, 0 failed"]
-        self.assertEqual((status, lines), (0, printed))
+        self.assertEqual(self.gate(), (0, printed))
 
     def test_failures_of_each_are_counted(self):
         self.assert_fails(self.gate(rt=BUILDS + "echo '10 passed, 2 failed'; exit 1"), "17 passed, 2 failed")
@@ -84,13 +82,9 @@ class Gate(unittest.TestCase):
         self.assertEqual(lines[-4:-2], [folder + program for program in PROGRAMS])
 
     def test_nothing_passes_without_rt(self):
-        self.assert_fails(
-            self.gate(without=("rt",)),
-            "7 passed, 4 failed",
-            "missing: rt",
-            "rt ci ended with exit status 127, without a line 'N passed, M failed'",
-            *(f"missing: the built program, {program}" for program in PROGRAMS),
-        )
+        words = "rt ci ended with exit status 127, without a line 'N passed, M failed'"
+        missing = [f"missing: the built program, {program}" for program in PROGRAMS]
+        self.assert_fails(self.gate(without=("rt",)), "7 passed, 4 failed", "missing: rt", words, *missing)
 
     def test_it_is_short_and_leaves_nothing_out(self):
         text = (TOP / ".ci" / "run").read_text(encoding="utf-8")

@@ -42,7 +42,3 @@ class Manual(unittest.TestCase):
                          [".TP", r"\fBa | b\fR", r"\fIB\fR: c", ".br", r"\fIC\fR: d"])
         self.assertEqual(manual.blocks(["- a", "  b", "", "  ```", "  .c", "  ```", "- d"]),
                          [r".IP \(bu 3", "a b", ".RS 3", ".PP", ".RS 4", ".nf", r"\&.c", ".fi", ".RE", ".RE", r".IP \(bu 3", "d"])
-
-
-if __name__ == "__main__":
-    unittest.main()

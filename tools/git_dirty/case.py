@@ -1,18 +1,20 @@
 """What the tests of git_dirty share: runs of git and of the program over one repository, and comparisons of their ends."""
 
 import os
+import shutil
 import subprocess
+import unittest.mock
 
 from support.index_bytes import KINDS, checksum_of, parts_of
 from support.programs import GIT_DIRTY
-from support.repositories import SETTINGS, STATUS_OF_HEADS, THEN, Case, as_dirty, read, write
+from support.repositories import COLUMNS, SETTINGS, STATUS_OF_HEADS, THEN, Case, as_dirty, read, write
 
 PLAIN = "[core]\n\trepositoryformatversion = 0\n"
 LF, CRLF = b"1\n2\n", b"1\r\n2\r\n"
 
 
 class Dirty(Case):
-    """A test with a repository of its own, and two files that are staged."""
+    """A test with a repository of its own, and two files that are committed."""
 
     PROGRAM = GIT_DIRTY
 
@@ -21,10 +23,17 @@ class Dirty(Case):
         self.add("a", "d/b")
 
     def add(self, *names):
-        """Makes files, and stages them."""
+        """Makes files, stages them, and commits what is staged."""
         for name in names:
             self.write(name, "foo")
         self.git("add", "--", *names)
+        self.commit_index()
+
+    def commit_index(self):
+        """Commits what is staged, and leaves the index file."""
+        copy = shutil.copy(self.path(".git/index"), os.path.join(self.room, "committed"))
+        with unittest.mock.patch.dict(os.environ, GIT_INDEX_FILE=copy):
+            self.commit()
 
     def set_time(self, second, *names):
         """Gives files and links this time."""
@@ -40,19 +49,20 @@ class Dirty(Case):
         return self.run_in([self.PROGRAM, *words], folder, **settings)
 
     def git_lines(self, *words, folder=None, **settings):
-        """Returns git's lines as the program prints them."""
-        ran = self.run_in([*STATUS_OF_HEADS, *words], folder, **settings)
+        """Returns git's lines as the program prints them with these words."""
+        ran = self.run_in([*STATUS_OF_HEADS, *(word for word in words if [word] not in COLUMNS)], folder, **settings)
         self.assertEqual((ran.returncode, ran.stderr), (0, b""))
-        return as_dirty(ran.stdout)
+        return as_dirty(ran.stdout, *words)
 
     def assert_ends(self, ran, lines):
         """Asserts that the program printed these lines and nothing else, with their exit status."""
         self.assertEqual((ran.returncode, ran.stdout, ran.stderr), (int(lines != b""), lines, b""))
 
     def assert_as_git(self, lines, *words, **settings):
-        """Asserts that git and the program print these lines."""
+        """Asserts that git and the program print these lines, and the program those of each column."""
         self.assertEqual(self.git_lines(*words, **settings).decode(), lines)
-        self.assert_ends(self.ran(*words, **settings), lines.encode())
+        for columns in COLUMNS:
+            self.assert_ends(self.ran(*columns, *words, **settings), self.git_lines(*columns, *words, **settings))
 
     def assert_fails(self, ran, words, lines=b""):
         """Asserts that the program failed with one line, which matches these words, after these lines."""

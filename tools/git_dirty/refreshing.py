@@ -18,7 +18,7 @@ from dataclasses import replace
 from git_dirty.case import Dirty
 from support.index_bytes import MODE, parts_of
 from support.programs import GIT_DIRTY
-from support.repositories import SETTINGS, THEN, read, wait_for_later_second, write
+from support.repositories import SETTINGS, STATUS_OF_HEADS, THEN, as_dirty, merged, read, wait_for_later_second, write
 
 EXISTS, CHANGED = "Unable to create '{}': File exists", "the index changed meanwhile, so nothing was written"
 
@@ -67,8 +67,7 @@ class Refresh(Dirty):
 
     def is_stored(self, name, kind="sha1"):
         """Returns whether the index has the stat of a file, whose mode may be another by core.fileMode or core.symlinks."""
-        stats = self.stored(name, kind), stat_of(self.path(name))
-        stored, found = (stat[:MODE] + stat[MODE + 1 :] for stat in stats)
+        stored, found = (stat[:MODE] + stat[MODE + 1 :] for stat in (self.stored(name, kind), stat_of(self.path(name))))
         return stored == found
 
     def stored(self, name, kind="sha1"):
@@ -89,7 +88,7 @@ class Refresh(Dirty):
         self.run_in(["git", "update-index", "-q", "--refresh"])
         wanted, raw = self.entries(), self.git("diff-files")
         self.put(old, nanos=nanos)
-        self.assert_ends(self.refresh(), lines.encode())
+        self.assert_ends(self.refresh(), self.both(lines))
         self.assertEqual((self.entries(), self.git("diff-files")), (wanted, raw))
         self.assertEqual(self.shown(), shown)
         new, as_long = self.read(), old[7] < 4 or b"IEOT" not in old
@@ -97,7 +96,11 @@ class Refresh(Dirty):
         kind = self.git("rev-parse", "--show-object-format").decode().strip()
         self.assertEqual(parts_of(kind, new).extensions, parts_of(kind, old).extensions)
         self.assertEqual(self.run_in(["git", "fsck", "--no-dangling"]).returncode, 0)
-        self.assert_ends(self.ran(), lines.encode())
+        self.assert_ends(self.ran("--worktree"), lines.encode())
+
+    def both(self, lines, **settings):
+        """Returns these lines of the second column with git's letters of the first one."""
+        return merged(as_dirty(self.run_in(STATUS_OF_HEADS, **settings).stdout, "--staged"), lines.encode())
 
     # Commands of git that print the same before and after a refresh.
     SHOWN = [["status", "--porcelain"], ["diff", "--raw"], ["ls-files", "--stage", "-v"], ["diff", "--cached", "--raw"]]
@@ -107,8 +110,7 @@ class Refresh(Dirty):
         copy, found = os.path.join(self.room, "shown"), []
         for words in self.SHOWN:
             shutil.copy2(self.place(), copy)
-            command = ["git", "--no-optional-locks", *words]
-            found.append(self.run_in(command, **settings, GIT_INDEX_FILE=copy))
+            found.append(self.run_in(["git", "--no-optional-locks", *words], **settings, GIT_INDEX_FILE=copy))
         self.assertEqual([ran.returncode for ran in found], [0] * len(found))
         return [ran.stdout for ran in found]
 
@@ -133,9 +135,8 @@ class Refresh(Dirty):
         reader, writer = os.pipe()
         self.addCleanup(os.close, reader)
         size = fcntl.fcntl(writer, fcntl.F_SETPIPE_SZ, 4096)
-        child = subprocess.Popen(
-            [GIT_DIRTY, "--refresh", *words], cwd=self.top, stdout=writer, stderr=subprocess.PIPE, env={**os.environ, **SETTINGS}
-        )
+        how = {"cwd": self.top, "stdout": writer, "stderr": subprocess.PIPE, "env": {**os.environ, **SETTINGS}}
+        child = subprocess.Popen([GIT_DIRTY, "--refresh", *words], **how)
         os.close(writer)
         self.addCleanup(child.stderr.close)
         self.addCleanup(child.kill)
@@ -192,6 +193,7 @@ class Careful(Refresh):
         for name, text in files.items():
             self.write(name, text)
         self.git("add", "--", *files)
+        self.commit_index()
         self.settle()
         self.touch(*files)
 
@@ -235,8 +237,8 @@ class Careful(Refresh):
         """Asserts that git lists a path before and after a refresh, which prints these lines, and shows the same."""
         shown = self.shown(**settings)
         self.assertIn(path.encode(), self.changed())
-        ran = self.refresh(*words, **settings)
-        self.assertEqual((ran.stdout.decode(), ran.returncode), (lines, int(lines != "")))
+        ran, both = self.refresh(*words, **settings), self.both(lines, **settings)
+        self.assertEqual((ran.stdout, ran.returncode), (both, int(both != b"")))
         self.assertEqual(self.shown(**settings), shown)
         self.assertIn(path.encode(), self.changed())
         self.assertEqual(self.run_in(["git", "fsck", "--no-dangling"]).returncode, 0)
@@ -249,9 +251,10 @@ class Careful(Refresh):
         """Asserts that a refresh fails for this reason after these lines, and leaves the index file."""
         old, stat, shown = self.read(), self.stat(), self.shown(**settings)
         wanted = f"git dirty: the index isn't refreshed, since {why}: use git update-index --refresh\n"
-        for words, printed in (([], lines), (["--stats"], lines), (["-q"], "")):
+        both = self.both(lines, **settings)
+        for words, printed in (([], both), (["--stats"], both), (["--worktree"], lines.encode()), (["-q"], b"")):
             ran = self.refresh(*words, *paths, **settings)
-            self.assertEqual((ran.returncode, ran.stdout.decode()), (2, printed))
+            self.assertEqual((ran.returncode, ran.stdout), (2, printed))
             said = ran.stderr.decode().splitlines(True)
             self.assertEqual([line for line in said if " note: " not in line and " entries, " not in line], [wanted])
             self.assertEqual((self.read(), self.stat()), (old, stat))
@@ -265,4 +268,4 @@ class Careful(Refresh):
         self.run_in(["git", "update-index", "-q", "--refresh"], **settings)
         self.assertEqual(self.shown(**settings), shown)
         stat, ran = self.stat(), self.refresh(**settings)
-        self.assertEqual((ran.returncode, self.stat()), (int(lines != ""), stat), ran.stderr)
+        self.assertEqual((ran.returncode, self.stat()), (int(self.both(lines, **settings) != b""), stat), ran.stderr)

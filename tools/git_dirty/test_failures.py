@@ -9,7 +9,7 @@ import tempfile
 
 from git_dirty.case import Dirty
 from support.programs import GIT_DIRTY, TOP, Starved
-from support.repositories import SETTINGS, STATUS
+from support.repositories import SETTINGS, STATUS, as_dirty
 
 
 class Failures(Dirty):
@@ -33,7 +33,7 @@ class Failures(Dirty):
     def test_help_has_an_example(self):
         ran = self.ran("--help", folder="/")
         self.assertEqual((ran.returncode, ran.stderr), (0, b""))
-        for word in ("git dirty", "-C", "-z", "-q", "--refresh", "--threads", "--stats", "--version", "git LFS"):
+        for word in ("git dirty", "-C", "-z", "-q", "--refresh", "--staged", "--worktree", "--threads", "--stats", "--version", "git LFS"):
             self.assertIn(word, ran.stdout.decode())
         self.assertEqual(self.ran("-h", folder="/").stdout, ran.stdout)
 
@@ -60,6 +60,13 @@ class Memory(Dirty):
             self.write(name, "bars")
         os.remove(self.path("d/b"))
 
+    def has_begun(self, calm, out):
+        """Returns whether an output has the beginning of the calm run's lines of the worktree, and only lines of its index."""
+        zero = ["-z"] * (b"\0" in calm)
+        (whole, part), staged = ([as_dirty(it, *zero, columns) for it in (calm, out)] for columns in ("--worktree", "--staged"))
+        lines, found = ({*re.split(b"[\0\n]", it)} for it in staged)
+        return whole.startswith(part) and found <= lines
+
     def wrong(self, calm, ended, letters, on):
         """Returns what is wrong with an end, or None."""
         if (ended.status, ended.out, ended.fault) == calm:
@@ -68,7 +75,7 @@ class Memory(Dirty):
             return "another end, and nothing was refused"
         if ended.status != 2:
             return ended.end()
-        if not calm[1].startswith(ended.out) or ended.out[-1:] not in (b"", b"\n", b"\0"):
+        if not self.has_begun(calm[1], ended.out) or ended.out[-1:] not in (b"", b"\n", b"\0"):
             return "output that is no beginning of the lines"
         # The first word is that of the parser of the arguments while these are read.
         if re.fullmatch(rb"(git dirty|error): (?i:out of memory)\n", ended.fault) or (on and ended.fault == b""):
@@ -86,8 +93,7 @@ class Memory(Dirty):
             while True:
                 at += 1
                 ended, letters = starved.run(words, at, on, **SETTINGS)
-                wrong = self.wrong(calm, ended, letters, on)
-                if wrong:
+                if wrong := self.wrong(calm, ended, letters, on):
                     found.append(f"call {at}: {wrong}: {ended.text()}")
                 if not letters:
                     return at - 1, found
@@ -99,5 +105,13 @@ class Memory(Dirty):
             self.assertGreater(calls, 15)
 
     def test_each_allocation_is_refused(self):
-        for words in (["--threads", "1"], ["--threads", "2"], ["--threads", "1", "-z", "a", "d", "m"]):
+        for words in (["--threads", "1"], ["--threads", "2"], ["--threads", "1", "-z", "a", "d", "m"], ["--staged"], ["--worktree", "--threads", "1"]):
             self.assert_swept(*words)
+
+    def test_one_thread_starts_no_other(self):
+        for number in range(120):
+            self.write(f"{number // 2}/{number}", "foo")
+        self.git("add", ".")
+        with tempfile.TemporaryDirectory() as room, Starved(GIT_DIRTY, room) as starved:
+            letters = [starved.run(["-C", self.top, "--threads", limit], **SETTINGS)[1] for limit in "124"]
+        self.assertEqual(["t" in found for found in letters], [False, True, True])

@@ -61,8 +61,7 @@ class Watched(Dirty):
                 file.seek(0)
             ended = Ended(child.returncode, out.read(), fault.read())
         self.assertFalse(is_killed, f"it hangs, or takes too much memory: {ended.text()}")
-        lines = os.fsdecode(read(log)).splitlines()
-        return ended, {os.path.realpath(os.path.join(self.top, line)) for line in lines}
+        return ended, {os.path.realpath(os.path.join(self.top, line)) for line in os.fsdecode(read(log)).splitlines()}
 
     def assert_opens_inside(self, opened, *others):
         """Asserts that of the test's folder only these files and what is in the worktree were opened."""
@@ -120,8 +119,8 @@ class Outside(Watched):
         self.assert_ends_inside(self.git_lines())
         shutil.rmtree(self.path("d"))
         os.symlink("../outside/d", self.path("d"))
-        self.assertEqual(self.git_lines(), b" D d/b\n D link/d/b\n D link/f\n")
-        self.assert_ends_inside(b" D d/b\n D link/d/b\n D link/f\n")
+        self.assertEqual(self.git_lines(), b" D d/b\nAD link/d/b\nAD link/f\n")
+        self.assert_ends_inside(b" D d/b\nAD link/d/b\nAD link/f\n")
 
     def test_paths_that_leave_the_worktree_are_refused(self):
         """Git's commands don't write such an index."""
@@ -164,6 +163,7 @@ class ReplacedFiles(Watched):
     # The places of files, from the worktree's top. Branches of submodules are loose in `s` and packed in `p`, and the git
     # folder of `t` is elsewhere.
     FILES = [".git/index", ".git/config", ".git/config.worktree", ".git/HEAD", ".git/commondir", ".git/info/attributes"]
+    FILES += [".git/refs/heads/master", ".git/packed-refs", ".git/objects/info/alternates"]
     FILES += [".gitattributes", "e/.gitattributes", ".gitmodules", "d/b", "s/.git", "s/.git/HEAD", "s/.git/config"]
     FILES += ["s/.git/refs/heads/master", "s/.git/commondir", "p/.git/packed-refs", "t/.git", ".git/modules/t/HEAD"]
     FILES += [".git/modules/t/config", "../attributes", "../home/.gitconfig", "../xdg/git/config", "../xdg/git/attributes"]
@@ -221,14 +221,13 @@ class ReplacedFiles(Watched):
                 if kind in ("unreadable", "gone") and not os.path.exists(place) or (name, kind) == ("d/b", "a named pipe"):
                     continue  # A pipe in place of a tracked file is a row of rows.txt.
                 with self.subTest(name=name, kind=kind), self.replaced(place, kind):
-                    is_waiting = kind == "a named pipe" and name not in self.WITHOUT_WAIT
-                    gits = None if is_waiting else self.answer()
+                    gits = None if kind == "a named pipe" and name not in self.WITHOUT_WAIT else self.answer()
                     gone = gits if kind == "gone" else gone
                     self.assert_is(gits if gits is not None or not self.PASSED.search(name) else gone, name, kind)
 
     def assert_is(self, gits, name, kind):
         """Asserts that the program prints git's lines. If git fails or doesn't end, the program has to fail. It may also fail
-        for a tracked file or submodule that it can't read."""
+        for a tracked file, a submodule or a file of HEAD's commit that it can't read."""
         ended, opened = self.watched(**self.settings)
         quiet, others = self.watched("-q", **self.settings)
         *notes, last = [b"", *ended.fault.splitlines(True)]
@@ -236,7 +235,7 @@ class ReplacedFiles(Watched):
             self.assertRegex(last, rb"\Agit dirty: (?!note: )[^\n]+\n\Z")
             if isinstance(gits, bytes):
                 self.assertNotIn(kind, ("gone", "a link out"))
-                self.assertRegex(last, rb'\Agit dirty: can\'t read ("d/b"|the submodule "[spt]"): ')
+                self.assertRegex(last, rb"\Agit dirty: (can't read (\"d/b\"|the submodule \"[spt]\"|HEAD's commit): |unable to .*(master|refs)')")
         else:
             self.assertEqual((ended.status, ended.out), (int(gits != b""), gits), ended.text())
             self.assertEqual((quiet.status, quiet.out, quiet.fault), (ended.status, b"", b""))
@@ -251,7 +250,7 @@ class ReplacedFiles(Watched):
 
     def test_a_repository_with_submodules(self):
         lines = self.answer()
-        self.assertEqual(lines.decode(), " M p\n M s\n M t\n M é\n")
+        self.assertEqual(lines.decode(), "A  e/x\nAM p\nAM s\nAM t\nA  x\nA  y\nA  z\n M é\n")
         self.sweep(self.FILES)
         self.assertEqual(self.answer(), lines)
 

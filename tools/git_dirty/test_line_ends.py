@@ -7,7 +7,7 @@ Other tests of line ends are rows of rows.txt.
 
 from git_dirty.case import CRLF, LF, Dirty
 from support.index_bytes import SIZE, with_stat
-from support.repositories import STATUS, as_dirty
+from support.repositories import COLUMNS, STATUS, as_dirty
 
 
 class LineEnds(Dirty):
@@ -28,11 +28,12 @@ class LineEnds(Dirty):
             self.write(path, content)
 
     def ask(self):
-        """Returns the paths that git lists. Asserts that the program has the same result."""
+        """Returns the paths whose files git lists. Asserts that the program has the same result, and in each column."""
         gits = self.run_in(STATUS)
         self.assertEqual(gits.returncode, 0, gits.stderr)
-        self.assert_ends(self.ran(), as_dirty(gits.stdout))
-        return " ".join(line[3:] for line in as_dirty(gits.stdout).decode().splitlines())
+        for columns in COLUMNS:
+            self.assert_ends(self.ran(*columns), as_dirty(gits.stdout, *columns))
+        return " ".join(line[3:] for line in as_dirty(gits.stdout, "--worktree").decode().splitlines())
 
 
 class Contents(LineEnds):
@@ -50,8 +51,7 @@ class Contents(LineEnds):
             for after in (b"\x1a", b"x\x1a", b"\x1a\x1a", b"\x1ax", b"\x1a\r\n", b"\x1a\n", b"\x1a\r")}
     ENDS = ["", "\n", "\r", "\r\n", "\n\r", "\r\r\n", "\r\n\r", "\r\n\n", "\r\n\r\n", "a", "a\n", "a\r", "a\r\n", "a\r\nb"]
     ENDS += ["a\r\nb\r", "a\nb\r\n", "a\r\nb\n", "a\rb\r\n", "a\r\nb\rc\n", "a\r\r\nb\r\n", "a\0b\r\n", "\0", "\r\n\0"]
-    ENDS += ["é\r\n", "\ufeffa\r\n"]
-    ENDS += ["x" * 100_000 + end for end in ("\n", "\r\n", "\r", "\r\n\r", "\r\n\0")]
+    ENDS += ["é\r\n", "\ufeffa\r\n", *("x" * 100_000 + end for end in ("\n", "\r\n", "\r", "\r\n\r", "\r\n\0"))]
     ENDS += ["1234567\r\n" * 12_000, "\r\n" * 50_000, "\n" * 50_000 + "\r\n"]
     # A CRLF, or a CR alone, at the edge of what may be read at once.
     ENDS += ["x" * ((1 << power) - 1) + end for power in range(9, 18) for end in ("\r\ny\n", "\ry\r\n")]

@@ -105,4 +105,4 @@ class Settled(Refresh):
         time.sleep(second + 1.05 - time.time())
         self.assertEqual(self.end(child, reader), (1, ""))
         self.assert_as_git(" M a\n", "a")
-        self.assertIn(b"AM a\n", self.git("status", "--porcelain"))
+        self.assertIn(b" M a\n", self.git("status", "--porcelain"))

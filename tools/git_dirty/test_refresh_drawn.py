@@ -14,7 +14,7 @@ from stress.compare_dirty import NOTES
 from stress.draw_attributes import AttributeDrawing
 from stress.draw_repositories import Drawing, drawn
 from support.programs import room_of_memory
-from support.repositories import SETTINGS, STATUS_OF_HEADS, as_dirty
+from support.repositories import COLUMNS, SETTINGS, STATUS_OF_HEADS, as_dirty
 
 # How many repositories are drawn of each kind.
 DRAWN = 100
@@ -46,13 +46,13 @@ class Drawn(Refresh):
 
     def assert_refreshed(self, drawing, **settings):
         """Asserts that a refresh leaves of the index what git leaves. Returns whether it writes the index."""
-        self.top, self.kind = drawing.top, drawing.kind
+        self.top, self.kind, columns = drawing.top, drawing.kind, COLUMNS[drawing.seed % 2]
         old, nanos, entries = self.read(), self.nanos(), self.each_entry()
         shown, freed = self.shown(**settings), self.freed(**settings)
         self.run_in(["git", "update-index", "-q", "--refresh"], **settings)
         gits = self.each_entry()
         self.put(old, nanos=nanos)
-        ran, lines = self.refresh("-z", **settings), as_dirty(shown[0], b"\0")
+        ran, lines = self.refresh("-z", *columns, **settings), as_dirty(shown[0], "-z", *columns)
         self.assertEqual((ran.stdout, ran.returncode), (lines, int(lines != b"")))
         self.assertRegex(ran.stderr, NOTES)
         new, ours = self.read(), self.each_entry()
@@ -73,8 +73,7 @@ class Drawn(Refresh):
     def assert_racy(self, place, old, gits, nanos):
         """Asserts that git left a racy entry, of which it doesn't compare all of the stat, and that all is stored now."""
         self.assertEqual(gits, old)
-        second = int(re.fullmatch(r"  mtime: (\d+):\d+", old[2])[1])
-        self.assertGreaterEqual(second, nanos // 10**9)
+        self.assertGreaterEqual(int(re.fullmatch(r"  mtime: (\d+):\d+", old[2])[1]), nanos // 10**9)
         self.assertTrue(self.is_stored(place[1].decode(), self.kind))
 
     def freed(self, **settings):

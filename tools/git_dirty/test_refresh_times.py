@@ -17,10 +17,8 @@ class Times(Careful):
     UNRACY = "its time is in the first second of 1970, when no entry is racy to git"
 
     def partial(self):
-        """Makes repositories of which a refresh compares a part, with an index that is later than the files.
-
-        Yields their names, and the words of a refresh.
-        """
+        """Makes repositories of which a refresh compares a part, with an index that is later than the files. Yields their
+        names, and the words of a refresh."""
         rows = {"paths": lambda: None, "assume-valid": lambda: self.git("update-index", "--assume-unchanged", "d/b")}
         rows["skip-worktree"] = lambda: self.git("update-index", "--skip-worktree", "d/b")
         rows["a filter"] = lambda: self.write(".git/info/attributes", "b filter=x\n")
@@ -60,9 +58,9 @@ class Times(Careful):
             with self.subTest(name):
                 later = self.refresh_and_edit(words)
                 self.assert_as_git(" M a\n", "a")
-                self.assertIn(b"AM a\n", self.shown()[0])
+                self.assertIn(b" M a\n", self.shown()[0])
                 os.utime(self.place(), ns=(later, later))
-                self.assertNotIn(b"AM a\n", self.shown()[0])
+                self.assertNotIn(b" M a\n", self.shown()[0])
 
     def refresh_and_edit(self, words):
         """Refreshes an index of the future, and edits a file in the same second. Returns the index's old time."""
@@ -93,7 +91,7 @@ class Times(Careful):
                     self.touch("a")
                     for content, is_seen in ((careless, False), (old, True)):
                         self.put(content, nanos=nanos)
-                        self.assertEqual(b"AM a\n" in self.shown()[0], is_seen)
+                        self.assertEqual(b" M a\n" in self.shown()[0], is_seen)
                     self.write("a", "foo")
                     self.touch("a")
 
@@ -105,20 +103,19 @@ class Times(Careful):
             self.make_racy("r")
             self.edit_racy("r")
             os.chmod(self.path("r"), 0o755)
-            self.assertIn(b"AM r\n", self.shown()[0])
+            self.assertIn(b" M r\n", self.shown()[0])
             if how == "git":
                 self.git("update-index", "-q", "--refresh", "--force-write-index")
             else:
                 self.assert_ends(self.refresh(), b" M r\n")
             self.assertEqual(self.stored("r")[SIZE], 3 if how == "git" else 0)
             os.chmod(self.path("r"), 0o644)
-            self.assertEqual((b"AM r\n" in self.shown()[0], self.changed()), (False, []) if how == "git" else (True, [b"r"]))
+            self.assertEqual((b" M r\n" in self.shown()[0], self.changed()), (False, []) if how == "git" else (True, [b"r"]))
         self.assert_as_git(" M r\n")
 
     def test_the_time_is_before_the_first_comparison(self):
         self.add_many()
-        before = time.time_ns()
-        child, reader = self.start()
+        before, (child, reader) = time.time_ns(), self.start()
         between = time.time_ns()
         time.sleep(0.1)
         self.end(child, reader)
@@ -146,7 +143,7 @@ class Times(Careful):
         if misled:
             self.put(old)
         self.git("update-index", f"--no-{word}", "r")
-        self.assertEqual(b"AM r\n" in self.shown()[0], not misled)
+        self.assertEqual(b" M r\n" in self.shown()[0], not misled)
         self.put(old, nanos=nanos)
 
     def test_an_untracked_file_of_the_second_of_the_index(self):
@@ -172,18 +169,17 @@ class Times(Careful):
         self.wait()
         self.assertEqual(self.end(child, reader), (1, ""))
         self.assertEqual(self.stored("a")[MTIME], second)
-        self.assertIn(b"AM a\n", self.shown()[0])
+        self.assertIn(b" M a\n", self.shown()[0])
         self.assert_as_git(" M a\n", "a")
         self.store()
-        self.assertNotIn(b"AM a\n", self.shown()[0])
+        self.assertNotIn(b" M a\n", self.shown()[0])
 
     def started_and_edited(self):
         """Starts a refresh that waits, and edits a file that it has compared. Returns the second in which all of it was done."""
         for _ in range(20):
             self.wait()
             self.write("a", "foo")
-            second = int(os.stat(self.path("a")).st_mtime)
-            child, reader = self.start()
+            second, (child, reader) = int(os.stat(self.path("a")).st_mtime), self.start()
             self.write("a", "bar")
             if int(os.stat(self.path("a")).st_mtime) == second:
                 return child, reader, second

@@ -78,9 +78,8 @@ class Writing(Refresh):
     def test_a_full_disk(self):
         old, stat = self.read(), self.stat()
         for size in (0, 1, 100, len(old) - 1):
-            ran = subprocess.run(
-                [GIT_DIRTY, "--refresh"], cwd=self.top, capture_output=True, timeout=60, preexec_fn=limit_files(size)
-            )
+            how = {"cwd": self.top, "capture_output": True, "timeout": 60, "preexec_fn": limit_files(size)}
+            ran = subprocess.run([GIT_DIRTY, "--refresh"], **how)
             self.assert_unchanged(ran, f"^git dirty: Unable to write '{self.place()}.lock': file too large$", old, stat)
 
 

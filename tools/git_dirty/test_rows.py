@@ -27,14 +27,18 @@ class Reported(Dirty):
     """Rows that are wrong, and programs that end otherwise than a row states, are reported."""
 
     STEPS = "== row\n$ printf bars >a; rm d/b; printf foo >'é'; git add -- 'é'; rm 'é'\n"
-    RIGHT = ['M a, D d/b "\\303\\251"', "as git", "git as git; ours as git"]
+    RIGHT = ['M a, D d/b "\\303\\251"', '.M a, .D d/b, AD "\\303\\251"', "as git", "git as git; ours as git"]
+    RIGHT += ['M a, D d/b "\\303\\251"; staged A. "\\303\\251"']
     WRONG = ["", "M a, D d/b", 'M a, T d/b, D "\\303\\251"', 'D d/b "\\303\\251", M a', 'M a, D d/b "\\303\\252"', "fails: .", "hangs"]
     WRONG += ["crashes", 'git M a; ours M a, D d/b "\\303\\251"', 'git M a, D d/b "\\303\\251"; ours M a', "git as git; ours fails: ."]
     WRONG += ['M a, D d/b "\\303\\251"; note: .', 'M a, D d/b "\\303\\251"; says: .', "git fails; ours as git", "same"]
+    WRONG += ['MM a, .D d/b, AD "\\303\\251"', '.M a, .D d/b, MD "\\303\\251"', 'M a, D d/b "\\303\\251"; staged']
+    WRONG += ['M a, D d/b "\\303\\251"; staged fails', 'M a, D d/b "\\303\\251"; staged A. a "\\303\\251"']
     # What a program of the shell's does before or after the right one's run, whose output is in the file `out`.
     SPOILERS = ["cat out; echo x >&2; exit $status", "cat out; exit 0", "cat out out; exit $status", "sed 1d out; exit $status"]
     SPOILERS += ["echo 'git dirty: x' >&2; exit 2", "cat out; kill -9 $$", "case $* in *-q*) echo x;; *) cat out;; esac; exit $status"]
-    SPOILERS += ["case $* in *-C*) exit 0;; esac; cat out; exit $status", "case $* in *-z*) exit 0;; esac; cat out; exit $status"]
+    SPOILERS += [f"case $* in *{word}*) exit 0;; esac; cat out; exit $status" for word in ("-C", "-z", "--worktree", "--staged")]
+    SPOILERS += ["case $* in *--*) cat out; exit $status;; esac; sed s/AD/A\\ / out; exit $status"]
     # Failures: a result, and rows that state another one.
     FAILS = "git fails: bad config line 1; ours fails: bad config line 1"
     NO_FAILS = ["", "fails: bad config line 2", "git fails: line 1; ours fails: line 2", "git fails: line 2; ours fails: line 1"]
@@ -70,8 +74,7 @@ class Reported(Dirty):
         for spoiler in ["cat out; exit $status", *self.SPOILERS]:
             with self.subTest(spoiler):
                 write(place, f'#!/bin/sh\n"{GIT_DIRTY}" "$@" >"{place}.out"\nstatus=$?\n{spoiler.replace("out", place + ".out")}\n')
-                is_right = self.is_right(f"{self.STEPS}? -> {self.RIGHT[0]}\n", place)
-                self.assertEqual(is_right, spoiler not in self.SPOILERS)
+                self.assertEqual(self.is_right(f"{self.STEPS}? -> {self.RIGHT[0]}\n", place), spoiler not in self.SPOILERS)
 
     def test_a_malformed_file_is_an_error(self):
         for text in ("$ true\n", "== a\n% x\n", "== a\n$ true\n", "== a\n? ->\n== a\n? ->\n", "== a\n  more\n", "== a\nfor b: c ¦ c\n? ->\n"):

@@ -19,8 +19,7 @@ MARK = re.compile(r"(==|--) (\S|\S.*\S)")
 ANY = float("inf")
 KINDS = {"words": (0, 1), "nodes": (1, ANY), "lines": (1, ANY), "fault": (1, 1), "left": (1, ANY), "rooms": (1, 1)}
 KINDS["values"] = (1, ANY)
-VALUE = "{value}"
-NODES = ("folder", "file", "link")
+VALUE, NODES = "{value}", ("folder", "file", "link")
 
 
 class Malformed(Exception):
@@ -75,10 +74,8 @@ def rows_of(text):
 
 
 def parts_of(text):
-    """Returns the part above the first row, and then the rows. Each has a name, and the lines of sections by their kinds.
-
-    The lines above all sections are of the kind `profile`.
-    """
+    """Returns the part above the first row, and then the rows. Each has a name, and the lines of sections by their kinds. The
+    lines above all sections are of the kind `profile`."""
     *lines, last = text.split("\n")
     if last:
         raise Malformed("the last line has no line feed")
@@ -134,8 +131,7 @@ def row_of(name, sections):
         words="".join(sections["words"]).split(),
         profile="\n".join(sections["profile"]) if sections["profile"] else None,
         left="".join(sections["left"]) + "\n" if "left" in sections else None,
-        nodes=[node_of(name, line) for line in sections.get("nodes", [])],
-        lines=lines,
+        nodes=[node_of(name, line) for line in sections.get("nodes", [])], lines=lines,
         fault="".join(line + "\n" for line in sections.get("fault", [])),
         rooms=rooms_of(name, "".join(sections.get("rooms", [])), len(lines.encode())),
     )

@@ -63,7 +63,7 @@ class Profiles(Case):
         os.replace(self.path("moved"), self.path("link"))
         lines, fault = status_of(self.top)
         self.assertEqual((lines, fault), ("UU conflict\n M d/changed\n A intended\n T link\n D moved\n M racy\n D sub\n", ""))
-        self.assertEqual(lines, as_dirty(self.git(*COMPARED.split())).decode())
+        self.assertEqual(lines, as_dirty(self.git(*COMPARED.split()), "--worktree").decode())
 
 
 class Unseen(RowCase):
@@ -76,10 +76,10 @@ class Unseen(RowCase):
         self.git("config", "core.autocrlf", "false")
         self.settle()
 
-    def check_ours(self, wanted, *_):
+    def check_columns(self, *_):
         lines, fault = status_of(self.top)
-        self.assertEqual((lines, fault != ""), (wanted.lines.decode(), wanted.fails is not None))
-        self.assertRegex(fault, wanted.fails or r"\A\Z")
+        self.assertEqual((lines, fault != ""), (self.ours.lines.decode(), self.ours.fails is not None))
+        self.assertRegex(fault, self.ours.fails or r"\A\Z")
 
 
 for one in rows_of(Path(__file__).with_name("unseen_rows.txt").read_text(encoding="utf-8")):

@@ -14,7 +14,7 @@ from functools import partial
 from pathlib import Path
 
 from support.programs import STATUS_PROGRAM, compile_library, limit_files
-from support.repositories import FOO, put_socket, write
+from support.repositories import FOO, put_socket, read, write
 from support.small_profiles import MALFORMED, MODIFIED, RENAMES, entry, node, put_out, wrong_files
 
 TOUCHED = {"timestamp": [9, 0], "options": {"counts": True}, "index": [entry("a", "foo"), entry("b", "foo")]}
@@ -40,8 +40,7 @@ class Refreshed(unittest.TestCase):
         return self.run_program("refresh", file or self.file, out or self.out, secs, nsecs, **settings)
 
     def content(self, name):
-        with open(name, encoding="utf-8") as file:
-            return file.read()
+        return read(name).decode()
 
     def left(self):
         return sorted(os.listdir(self.room))
@@ -100,8 +99,7 @@ class Refreshed(unittest.TestCase):
             for room in (0, 1, len(new) - 1, len(new)):
                 with self.subTest(old=old, room=room):
                     put_out(self.file, old)
-                    ran = self.refresh(out=out, preexec_fn=limit_files(room))
-                    is_full = room < len(new)
+                    ran, is_full = self.refresh(out=out, preexec_fn=limit_files(room)), room < len(new)
                     self.assertEqual(ran, (1, line, f"cannot write {out}\n") if is_full else (0, line, ""))
                     self.assertIsNone(wrong_files(self.file, ran[0], old, new))
 
@@ -139,8 +137,7 @@ class Refreshed(unittest.TestCase):
         self.assertEqual(self.content(lock), "another's")
 
     def test_permissions_are_kept(self):
-        before = os.umask(0o027)
-        self.addCleanup(os.umask, before)
+        self.addCleanup(os.umask, os.umask(0o027))
         self.assertEqual(self.refresh()[0], 0)
         self.assertEqual(self.mode(), 0o640)
         for mode in (0o600, 0o444, 0o666, 0o755):
@@ -172,8 +169,7 @@ class Failing(unittest.TestCase):
     EMPTY = '{"timestamp":[9,0],"index":[],"worktree":[]}'
     NEW = '{"index":[],"timestamp":[10,0],"worktree":[]}\n'
     # Three calls write it.
-    MOST = "16"
-    WRITING = ["write", "write", "write", "fsync", "rename"]
+    MOST, WRITING = "16", ["write", "write", "write", "fsync", "rename"]
     # A lock is never open to more than the file that it replaces.
     REPLACING = ["open", "fchmod 600", *WRITING]
 
@@ -186,10 +182,8 @@ class Failing(unittest.TestCase):
         write(cls.file, cls.EMPTY)
 
     def put(self, before):
-        """Makes a folder. If `before` says so, it has a file that only its owner may read, or a link to one.
-
-        Returns the folder, the path that the program has to write, and the file at that path.
-        """
+        """Makes a folder. If `before` says so, it has a file that only its owner may read, or a link to one. Returns the
+        folder, the path that the program has to write, and the file at that path."""
         room = tempfile.TemporaryDirectory()
         self.addCleanup(room.cleanup)
         folder = os.path.realpath(room.name)
@@ -208,13 +202,9 @@ class Failing(unittest.TestCase):
             number = report.fileno()
             settings = {"LD_PRELOAD": self.library, "FAIL_BELOW": folder, "FAIL_AT": at, "FAIL_ERROR": error}
             settings |= {"FAIL_MOST": self.MOST, "FAIL_REPORT": number}
-            ran = subprocess.run(
-                [STATUS_PROGRAM, "refresh", self.file, out, "10", "0"],
-                capture_output=True,
-                timeout=60,
-                pass_fds=(number,),
-                env={name: str(value) for name, value in settings.items()},
-            )
+            how = {"pass_fds": (number,), "env": {name: str(value) for name, value in settings.items()}}
+            command = [STATUS_PROGRAM, "refresh", self.file, out, "10", "0"]
+            ran = subprocess.run(command, capture_output=True, timeout=60, **how)
             report.seek(0)
             return (ran.returncode, ran.stdout.decode(), ran.stderr.decode()), report.read().decode().splitlines()
 
@@ -224,8 +214,7 @@ class Failing(unittest.TestCase):
         there = {os.path.basename(out), os.path.basename(target)} if before or is_written else set()
         self.assertEqual(set(os.listdir(folder)), there)
         if there:
-            with open(target, encoding="utf-8") as file:
-                self.assertEqual(file.read(), self.NEW if is_written else "old")
+            self.assertEqual(read(target).decode(), self.NEW if is_written else "old")
         if before:
             self.assertEqual(stat.S_IMODE(os.lstat(target).st_mode), 0o600)
 
@@ -239,8 +228,7 @@ class Failing(unittest.TestCase):
                     fault = "out of memory\n" if error == errno.ENOMEM else f"cannot write {out}\n"
                     self.assertEqual(ended, (0, "", "") if is_written else (1, "", fault))
                     # The new file that was opened is removed again.
-                    removed = ["unlink"] * (not is_written and "open" in calls[: at - 1])
-                    self.assertEqual(came, calls[:at] + removed)
+                    self.assertEqual(came, calls[:at] + ["unlink"] * (not is_written and "open" in calls[: at - 1]))
                     self.assert_files(folder, out, target, before, is_written)
 
     def test_a_call_that_fails_leaves_no_file_where_none_was(self):

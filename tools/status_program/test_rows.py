@@ -15,7 +15,7 @@ from dataclasses import replace
 
 from status_program.row_files import Malformed, all_rows, rows_of
 from support.programs import STATUS_PROGRAM, Starved, limit_files
-from support.repositories import FOO, write
+from support.repositories import FOO, read, write
 
 # A profile without entries and nodes, and its output.
 NOTHING = b'{"timestamp":[9,0],"options":{"counts":true},"index":[],"worktree":[]}'
@@ -140,10 +140,8 @@ def folder_of(row):
 
 
 def behind_other_lists(row):
-    """Returns the row with an index and a worktree that aren't lists, before its own.
-
-    Returns None if the row has no index, or is of another command.
-    """
+    """Returns the row with an index and a worktree that aren't lists, before its own. Returns None if the row has no index, or
+    is of another command."""
     if row.words[:1] not in (["status"], ["refresh"]) or not re.search(r'^\{.*"index"\s*:', row.profile or "", re.DOTALL):
         return None
     lists = '"index":0,' + '"worktree":0,' * ('"worktree"' in row.profile)
@@ -164,21 +162,17 @@ class Rows(unittest.TestCase):
         """Asserts that the folder has the files from before, and `o` with this text, unless that is None."""
         self.assertEqual(sorted(os.listdir(folder)), sorted(before + ([] if left is None else ["o"])))
         if left is not None:
-            with open(os.path.join(folder, "o"), "rb") as file:
-                self.assertEqual(file.read(), left.encode())
+            self.assertEqual(read(os.path.join(folder, "o")), left.encode())
 
     def assert_ends_as_it_says(self, row):
         with folder_of(row) as folder:
-            before = os.listdir(folder)
-            ran = run_program(folder, row.words)
-            wanted = (row.status, row.lines.encode(), row.fault.encode())
-            self.assertEqual((ran.returncode, ran.stdout, ran.stderr), wanted)
+            before, ran = os.listdir(folder), run_program(folder, row.words)
+            self.assertEqual((ran.returncode, ran.stdout, ran.stderr), (row.status, row.lines.encode(), row.fault.encode()))
             self.assert_left(folder, before, row.left)
 
     def test_of_equal_lists_the_last_counts(self):
         # Lists of another form are read in another way, which has to have the same result.
-        rows = [(file, behind_other_lists(row)) for file, row in all_rows()]
-        for file, row in rows:
+        for file, row in ((file, behind_other_lists(row)) for file, row in all_rows()):
             if row is not None:
                 with self.subTest(file=file, row=row.name):
                     self.assert_ends_as_it_says(row)
@@ -198,13 +192,11 @@ class Rows(unittest.TestCase):
                     self.assert_left(folder, before, None)
 
     def test_an_output_that_is_not_flushed_is_a_failure_with_no_line(self):
-        for file, row in all_rows():
-            if row.rooms:
-                with self.subTest(file=file, row=row.name), folder_of(row) as folder, open("/dev/full", "wb") as full:
-                    before = os.listdir(folder)
-                    ran = run_program(folder, row.words, stdout=full)
-                    self.assertEqual((ran.returncode, ran.stderr), (1, b""))
-                    self.assert_left(folder, before, None)
+        for file, row in (it for it in all_rows() if it[1].rooms):
+            with self.subTest(file=file, row=row.name), folder_of(row) as folder, open("/dev/full", "wb") as full:
+                before, ran = os.listdir(folder), run_program(folder, row.words, stdout=full)
+                self.assertEqual((ran.returncode, ran.stderr), (1, b""))
+                self.assert_left(folder, before, None)
 
 
 # Each row is a test of its own.
@@ -231,8 +223,7 @@ class Inputs(unittest.TestCase):
     def write_over_folder(self, index):
         """Writes a profile of these entries over the folder, with totals and a piece for each entry."""
         options = {"counts": True, "chunk_size": 1, "thread_limit": 1}
-        profile = {"timestamp": [9, 0], "options": options, "index": index, "folder": self.folder}
-        self.write(json.dumps(profile))
+        self.write(json.dumps({"timestamp": [9, 0], "options": options, "index": index, "folder": self.folder}))
 
     def test_texts_that_are_no_json_are_refused(self):
         for text, fault in TEXTS:
@@ -275,10 +266,8 @@ class Inputs(unittest.TestCase):
         self.assert_ends("status f", 1, b'0 modified -c- "a"\n', b"status failed: permission denied\n")
 
     def test_a_folder_that_may_not_be_entered_is_a_fault(self):
-        make_node(self.folder, "folder", "d")
-        make_node(self.folder, "folder", "d/e")
-        for name in ("d/e/x", "d/x"):
-            make_node(self.folder, "file", name, "foo")
+        for kind, name in (("folder", "d"), ("folder", "d/e"), ("file", "d/e/x"), ("file", "d/x")):
+            make_node(self.folder, kind, name, "foo")
         os.chmod(os.path.join(self.folder, "d"), 0o600)
         self.addCleanup(os.chmod, os.path.join(self.folder, "d"), 0o700)
         # The fault comes from the directory on the way to the first, and from the second itself.

@@ -4,10 +4,10 @@
     python3 tools/stress/compare_dirty.py --seeds 1000 [--first 0] [--keep FOLDER]
 
 draw_repositories.py draws the repository of each seed. The program is run over its top with one thread, and for parts of
-the seeds with four threads, with -z, with -q, from a folder of the worktree, and with paths. Each run has to print the
-lines of `git status --porcelain -uno --no-renames --ignore-submodules=dirty`, as `as_dirty` changes them, and nothing else
-but notes if git prints warnings. The program's own exit status has to be 1 if there is a line, and otherwise 0. If a path
-selects nothing, it has to fail instead.
+the seeds with four threads, with -z, with -q, from a folder of the worktree, and with paths: each time for both columns, and
+for each alone. Each run has to print the lines of `git status --porcelain -uno --no-renames --ignore-submodules=dirty`, as
+`as_dirty` changes them, and nothing else but notes if git prints warnings. The program's own exit status has to be 1 if there
+is a line, and otherwise 0. If a path selects nothing, it has to fail instead.
 
 The environment's GIT_DIRTY names the built program; without it that of this checkout is run. Each difference is printed
 with its seed, and the exit status is 1 if there is one, and 2 if the seeds can't be run. With --keep the repositories that
@@ -26,7 +26,7 @@ sys.path.insert(0, os.path.dirname(os.path.dirname(os.path.abspath(__file__))))
 from stress.draw_repositories import Drawing, drawn
 from stress.seeds import main
 from support.programs import GIT_DIRTY, Runner, room_of_memory
-from support.repositories import as_dirty, status_words
+from support.repositories import COLUMNS, as_dirty, status_words
 
 # How many repositories are made before their worktrees are edited.
 PART = 25
@@ -40,58 +40,59 @@ class Comparer:
     """Runs git and the program over one drawn repository."""
 
     def __init__(self, git, program, drawing):
-        self.git, self.program, self.drawing = git, program, drawing
-        self.top = drawing.top
+        self.git, self.program, self.drawing, self.top = git, program, drawing, drawing.top
 
     def lines(self, folder, *words):
-        """Returns git's lines as the program prints them, and what it may print to standard error. git has to succeed."""
+        """Returns what git prints, and what the program may print to standard error. git has to succeed."""
         ended = self.git.run(status_words(folder, *words), self.drawing.environment)
         if ended.status != 0 or ended.fault and self.drawing.IS_EDITED:
             raise RuntimeError(f"git {words} in {folder}: {ended.text()}")
-        return as_dirty(ended.out, b"\0" if "-z" in words else b"\n"), NOTES if ended.fault else NOTHING
+        return ended.out, NOTES if ended.fault else NOTHING
 
     def runs(self):
         """Yields the arguments of runs, and what git prints for each."""
         top, drawing, chance = self.top, self.drawing, self.drawing.chance
         lines = self.lines(top)
-        yield ["-C", top, "--threads", "1"], lines
         if not drawing.IS_EDITED:
+            yield [*COLUMNS[drawing.seed % 2], "-C", top, "--threads", "1"], lines
             return
-        if chance(0.4):
-            yield ["-C", top, "--threads", "4"], lines
-        if chance(0.3):
-            yield ["-C", top, "-z"], self.lines(top, "-z")
-        if chance(0.3):
-            yield ["-q", "-C", top], lines
         folder = drawing.some_folder()
         inside = os.path.join(top, folder)
-        if chance(0.3):
-            yield ["-C", inside], self.lines(inside)
+        whole = [(1, ["-C", top, "--threads", "1"], lines), (0.4, ["-C", top, "--threads", "4"], lines)]
+        whole += [(0.3, ["-C", top, "-z"], self.lines(top, "-z")), (0.3, ["-q", "-C", top], lines)]
+        whole += [(0.3, ["-C", inside], self.lines(inside))]
+        for _, words, its in [run for run in whole if chance(run[0])]:
+            yield from (([*columns, *words], its) for columns in COLUMNS)
         if chance(0.5):
             options, paths = ["-z"] if chance(0.3) else [], drawing.some_paths(folder)
-            found = [path for path in paths if self.selects(inside, path)]
-            if found != paths:
-                yield ["-C", inside, *options, "--", *paths], (None, REFUSED)
-            if found:
-                words = [*options, "--", *found]
-                yield ["-C", inside, *words], self.lines(inside, *words)
+            for columns in COLUMNS:
+                found = [path for path in paths if self.selects(inside, path, columns)]
+                if found != paths:
+                    yield [*columns, "-C", inside, *options, "--", *paths], (None, REFUSED)
+                if found:
+                    words = [*options, "--", *found]
+                    yield [*columns, "-C", inside, *words], self.lines(inside, *words)
 
-    def selects(self, folder, path):
-        """Returns whether a path selects something: an entry of the index is at it or below it, or a node is there."""
-        words = ["--literal-pathspecs", "-C", folder, "ls-files", "-z", "--", path]
+    def selects(self, folder, path, columns):
+        """Returns whether a path selects something: an entry of the index or a file of HEAD is at it or below it, or a node is
+        there. The column of the index counts no node, and that of the worktree no HEAD."""
+        is_headed = self.drawing.is_committed and columns != ["--worktree"]
+        words = ["--literal-pathspecs", "-C", folder, "ls-files", *["--with-tree=HEAD"] * is_headed, "-z", "--", path]
         place = os.path.normpath(os.path.join(folder, path))
         is_folder = os.path.basename(path) in ("", ".", "..")
         is_there = os.path.isdir(place) and not os.path.islink(place) if is_folder else os.path.lexists(place)
+        is_there &= columns != ["--staged"] or place == os.path.normpath(self.top)
         return is_there or self.git.run(words, self.drawing.environment).out != b""
 
     def differences(self):
         """Yields how each run that differs does."""
         for words, (lines, notes) in self.runs():
             ended = self.program.run(words, {**self.drawing.environment, "GIT_LITERAL_PATHSPECS": "1"})
+            lines = None if lines is None else as_dirty(lines, *words)
             printed = b"" if lines is None or "-q" in words else lines
             status = 2 if lines is None else int(lines != b"")
-            is_same = (ended.status, ended.out) == (status, printed) and re.search(notes, ended.fault)
-            if not is_same:
+            notes = NOTHING if "--staged" in words and notes is NOTES else notes
+            if (ended.status, ended.out) != (status, printed) or not re.search(notes, ended.fault):
                 drawn_by = "; ".join(self.drawing.notes)
                 yield f"seed {self.drawing.seed}, {words}: {ended.text()}\n  git: {printed!r}\n  drawn: {drawn_by}"
 
@@ -103,8 +104,7 @@ def compared(seeds, keep=None, kind=Drawing, program=GIT_DIRTY):
     with room_at as room, Runner(shutil.which("git") or "git", 20) as git, Runner(program, 20) as ours:
         for drawing in drawn(kind, seeds, room):
             comparer = Comparer(git, ours, drawing)
-            lines = comparer.lines(drawing.top)[0].split(b"\n")[:-1]
-            columns.update(line[:2].decode() for line in lines)
+            columns.update(line[:2].decode() for line in comparer.lines(drawing.top)[0].split(b"\n")[:-1])
             columns["files"] += len(drawing.paths)
             differences = [*comparer.differences()]
             found += differences

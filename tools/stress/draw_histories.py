@@ -44,8 +44,7 @@ class Plain:
     """The files and the staged contents, by path: the kind, the content, and whether it is executable."""
 
     def __init__(self, executable_bit):
-        self.executable_bit = executable_bit
-        self.files, self.staged = {}, {}
+        self.executable_bit, self.files, self.staged = executable_bit, {}, {}
 
     def refusal(self, event):
         """Returns why the event can't happen, as far as that depends on paths."""
@@ -125,8 +124,7 @@ class Drawn:
     def stamp(self):
         """Returns a time that isn't after the clock. Mostly it is the clock's."""
         seconds, nanos = self.clock
-        earlier = [[seconds - 1, SECOND - 1], [seconds, 0], [seconds, nanos // 2]]
-        return self.draw.choice(earlier + 5 * [[seconds, nanos]])
+        return self.draw.choice([[seconds - 1, SECOND - 1], [seconds, 0], [seconds, nanos // 2]] + 5 * [[seconds, nanos]])
 
     def run(self, stamp):
         chunk, limit = self.draw.choice([0, 1, 1, 2, 3, 7]), self.draw.choice([None, 0, 1, 2, 3, 8])
@@ -222,13 +220,11 @@ def run(seeds, keep=None, program=STATUS_PROGRAM, events=EVENTS):
     found, counts = [], collections.Counter()
     with tempfile.TemporaryDirectory() as room, Runner(program, 100) as runner:
         for seed in seeds:
-            drawn = Drawn(seed, events)
-            place = os.path.join(keep or room, f"history-{seed}.json")
+            drawn, place = Drawn(seed, events), os.path.join(keep or room, f"history-{seed}.json")
             with open(place, "w", encoding="utf-8") as file:
                 json.dump(drawn.profile, file)
             ended = runner.run(["replay", place])
-            wrong = difference(drawn, ended)
-            if wrong:
+            if wrong := difference(drawn, ended):
                 found.append(f"seed {seed}: {wrong}")
             else:
                 counts.update(counted(ended.out.decode()))

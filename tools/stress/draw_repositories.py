@@ -8,6 +8,7 @@ seed takes few processes.
 import hashlib
 import os
 import random
+import re
 import shutil
 import subprocess
 import zlib
@@ -31,6 +32,9 @@ YES = ["true", "yes", "on", "1", "TRUE"]
 FORMS = {name: (NO, YES) for name in ("fileMode", "symlinks", "trustctime", "quotePath")}
 FORMS["checkStat"] = (["minimal"], ["default"])
 MODES = {"file": "100644", "run": "100755", "link": "120000", "module": "160000"}
+# Who made a commit, and when.
+AUTHOR = {f"GIT_{who}_{what}": text for who in ("AUTHOR", "COMMITTER")
+          for what, text in (("NAME", "n"), ("EMAIL", "e"), ("DATE", f"{THEN} +0000"))}
 # How a path is edited. Some edits leave it unchanged.
 EDITS = ["put", "put", "grow", "same length", "same length", "same length", "swap", "swap", "swap other"]
 EDITS += ["touch", "touch", "chmod", "chmod", "remove", "remove", "folder", "empty folder", "link", "link", "fifo", "socket"]
@@ -50,6 +54,13 @@ def drawn(kind, seeds, room):
     return drawings
 
 
+def entries_of(draw, rows, foo):
+    """Yields most entries of rows of git ls-files. Some have another mode with the id of foo, or are below their path."""
+    for mode, name, _, path in (re.split("[ \t]", row, maxsplit=3) for row in rows if draw.random() < 0.8):
+        mode, name = draw.choice([(mode, name)] * 6 + [(mode, foo) for mode in MODES.values()])
+        yield mode, name, 0, path + draw.choice(["", "", "", "", "", "/x", "/y/z"])
+
+
 class Drawing:
     """The repository of a seed, in a folder that isn't there before. `environment` is that of git and of the program."""
 
@@ -60,7 +71,7 @@ class Drawing:
         self.kind = "sha256" if self.random.random() < 0.2 else "sha1"
         self.version = self.random.choice([2, 2, 4])
         # The kind of each path: file, run (executable), link, or module.
-        self.paths = {}
+        self.paths, self.is_committed = {}, False
         # The files whose entries are those of a conflict.
         self.replaced = []
         # What was done, for who reads of a difference.
@@ -72,9 +83,9 @@ class Drawing:
     def path(self, name):
         return os.path.join(self.top, name)
 
-    def git(self, *words, stdin=None):
+    def git(self, *words, stdin=None, **settings):
         command = ["git", "-C", self.top, "--literal-pathspecs", *words]
-        subprocess.run(command, input=stdin, check=True, stdout=subprocess.DEVNULL, stderr=subprocess.PIPE)
+        return subprocess.run(command, input=stdin, check=True, capture_output=True, env={**os.environ, **settings}).stdout
 
     def note(self, *words):
         self.notes.append(" ".join(map(str, words)))
@@ -90,11 +101,12 @@ class Drawing:
             self.put(path, self.paths[path])
         self.stage()
         self.stage_more()
+        # Before files are to be added: if one was in HEAD and is gone, git prints `DD`, as for a conflict.
+        self.commit()
         self.flag()
 
     def drawn_paths(self):
-        count = self.random.randrange(2, 22)
-        drawn = {self.random.choice(FOLDERS) + self.random.choice(NAMES) for _ in range(count)}
+        drawn = {self.random.choice(FOLDERS) + self.random.choice(NAMES) for _ in range(self.random.randrange(2, 22))}
         return sorted(path for path in drawn if not any(other.startswith(path + "/") for other in drawn))
 
     def configure(self, more):
@@ -141,11 +153,10 @@ class Drawing:
         write(self.path(f".git/objects/{name[:2]}/{name[2:]}"), zlib.compress(f"blob {len(text)}\0".encode() + text, 1))
         return name
 
-    def put_entries(self, entries):
+    def put_entries(self, entries, **settings):
         """Puts entries into the index by modes, ids, stages and paths. Mode 0 removes a path."""
-        lines = "".join(f"{mode} {name} {stage}\t{path}\0" for mode, name, stage, path in entries)
-        if lines:
-            self.git("update-index", "-z", "--index-info", stdin=lines.encode())
+        if lines := "".join(f"{mode} {name} {stage}\t{path}\0" for mode, name, stage, path in entries):
+            self.git("update-index", "-z", "--index-info", stdin=lines.encode(), **settings)
 
     def free_path(self, name):
         """Returns a path of this name in a drawn folder, which is no file."""
@@ -196,8 +207,7 @@ class Drawing:
         place = os.path.join(folder, ".git")
         if form == "file":
             place = self.path(f".git/modules/{len(self.notes)}")
-            up = os.path.relpath(place, folder) if self.chance(0.5) else place
-            write(os.path.join(folder, ".git"), f"gitdir: {up}\n")
+            write(os.path.join(folder, ".git"), f"gitdir: {os.path.relpath(place, folder) if self.chance(0.5) else place}\n")
             form = self.random.choice(["id", "ref"])
         if form == "broken":
             os.mkdir(place)
@@ -228,6 +238,16 @@ class Drawing:
                 write(self.path(name), "foo")
                 self.paths[name] = "file"
             self.git("add", "-N", "--", *names)
+
+    def commit(self):
+        """Commits most of what is staged, some of it otherwise, and leaves the index file. Git needs no blob for that."""
+        self.is_committed = self.chance(0.7)
+        if self.is_committed:
+            settings = {"GIT_INDEX_FILE": self.path(".git/committed"), **AUTHOR}
+            rows = self.git("ls-files", "-sz").decode().split("\0")[:-1]
+            self.put_entries(entries_of(self.random, rows, id_of(self.kind, b"foo")), **settings)
+            tree = self.git("write-tree", "--missing-ok", **settings).decode().strip()
+            write(self.path(".git/refs/heads/main"), self.git("commit-tree", "-m", "one", tree, **settings))
 
     # The edits.
 
@@ -388,8 +408,7 @@ class Drawing:
     def some_folder(self):
         """Returns a folder of the worktree that is there."""
         above = {os.path.dirname(path) for path in self.paths if self.is_reached(path)}
-        found = [path for path in sorted(above) if os.path.isdir(self.path(path))]
-        return self.random.choice(found or [""])
+        return self.random.choice([path for path in sorted(above) if os.path.isdir(self.path(path))] or [""])
 
 
 def relative(path, folder):

@@ -54,10 +54,8 @@ class Refused:
 
     @property
     def has_thread(self):
-        """Returns whether a thread was refused, or memory to start one.
-
-        If more than one is started, the calls after the first start come in any order.
-        """
+        """Returns whether a thread was refused, or memory to start one. If more than one is started, the calls after the first
+        start come in any order."""
         starts = [at for at, letter in enumerate(self.calls) if letter == "t"]
         late = len(starts) > 1 and self.at >= starts[0]
         return bool(set(self.letters) & set("tc")) or self.at in starts or late
@@ -69,8 +67,7 @@ def runs_before(row, place):
     if place >= len(events) or events[place][0] != "run":
         return None
     runs = sum(event[0] == "run" for event in events[:place])
-    end = row.out.find(f"run {runs + 1}\n")
-    return row.out[:end]
+    return row.out[: row.out.find(f"run {runs + 1}\n")]
 
 
 def wrong_fault(row, refused, out, fault):

@@ -104,8 +104,7 @@ def disturb(top, outside, ended, seed):
 def profile_of(folder, top):
     """Writes the profile, and returns its path. Each file is read, since no stat agrees."""
     entries = [{"path": f"d{number}/{file:02}", "id": FOO} for number in range(FOLDERS) for file in range(FILES)]
-    options = {"thread_limit": 4, "chunk_size": 5, "counts": True}
-    path = os.path.join(folder, "profile.json")
+    options, path = {"thread_limit": 4, "chunk_size": 5, "counts": True}, os.path.join(folder, "profile.json")
     write(path, json.dumps({"timestamp": [2**31, 0], "options": options, "index": entries, "folder": top}))
     return path
 

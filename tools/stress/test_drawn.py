@@ -13,7 +13,7 @@ from stress import compare_dirty, draw_histories, mutate_index, mutate_settings
 from stress.draw_attributes import AttributeDrawing
 from stress.seeds import run_all
 from support.programs import GIT_DIRTY, STATUS_PROGRAM, Ended
-from support.repositories import as_dirty, read, write
+from support.repositories import COLUMNS, CONFLICTS, as_dirty, merged, read, write
 
 # How many repositories are drawn, of each kind, and how many index files and settings are mutated.
 REPOSITORIES, ATTRIBUTES, MUTATED, MUTATED_SETTINGS = 1000, 200, 10000, 10000
@@ -85,14 +85,14 @@ class Drawn(unittest.TestCase):
     def test_drawn_repositories_are_reported_as_by_git(self):
         columns = self.run_seeds(compare_dirty.compared, REPOSITORIES, compare_dirty.PART)
         del columns["files"]
-        self.assertEqual(set(columns), {" M", " D", " T", " A", "DD", "AU", "UD", "UA", "DU", "AA", "UU"})
-        self.assertGreater(min(columns.values()), REPOSITORIES // 20)
+        each = {staged + other for staged in " AMT" for other in " MDT"} - {"  "} | {"D ", " A"}
+        self.assertEqual(set(columns), each | {letters.decode() for letters in CONFLICTS})
+        self.assertGreater(min(columns.values()), REPOSITORIES // 100)
 
     def test_drawn_files_are_converted_as_by_git(self):
         """Each repository has about 38 files."""
-        compared = partial(compare_dirty.compared, kind=AttributeDrawing)
-        columns = self.run_seeds(compared, ATTRIBUTES, compare_dirty.PART)
-        self.assertGreater(min(columns[" M"], columns["files"] - columns[" M"]), 10 * ATTRIBUTES)
+        columns = self.run_seeds(partial(compare_dirty.compared, kind=AttributeDrawing), ATTRIBUTES, compare_dirty.PART)
+        self.assertGreater(min(columns["AM"], columns["files"] - columns["AM"]), 10 * ATTRIBUTES)
 
     def test_mutated_index_files_are_refused_or_reported_as_by_git(self):
         shapes = self.run_seeds(mutate_index.run, MUTATED, mutate_index.PART)
@@ -173,16 +173,21 @@ class Spoilt(unittest.TestCase):
         self.assertEqual([end for end in ends if said(*end) is None], [])
 
     def test_lines_are_taken_from_git(self):
-        rows = [(b"AM a\n", b" M a\n"), (b"M  a\n", b""), (b" A a\nAD b\n", b" A a\n D b\n"), (b"", b"")]
-        rows += [(b"UU a\nDD b\nA  c\n", b"UU a\nDD b\n"), (b'AT "\\n"\n', b' T "\\n"\n')]
-        for printed, wanted in rows:
-            self.assertEqual(as_dirty(printed), wanted)
-            self.assertEqual(as_dirty(printed.replace(b"\n", b"\0"), b"\0"), wanted.replace(b"\n", b"\0"))
+        """What git prints, and the lines of each column."""
+        rows = [(b"AM a\n", b" M a\n", b"A  a\n"), (b"M  a\n", b"", b"M  a\n"), (b"", b"", b"")]
+        rows += [(b" A a\nAD b\n", b" A a\n D b\n", b"A  b\n"), (b'AT "\\n"\n', b' T "\\n"\n', b'A  "\\n"\n')]
+        rows += [(b"UU a\nDD b\nA  c\n", b"UU a\nDD b\n", b"UU a\nDD b\nA  c\n")]
+        for printed, *ones in rows:
+            for columns, wanted in zip(COLUMNS, (printed, *ones)):
+                self.assertEqual(as_dirty(printed, *columns), wanted)
+                self.assertEqual(as_dirty(printed.replace(b"\n", b"\0"), "-z", *columns), wanted.replace(b"\n", b"\0"))
+            self.assertEqual(merged(ones[1], ones[0]), printed)
+        self.assertEqual(merged(b'M  a\nUU b\nD  "\\303"\n', b' T a\nDD "\\n"\n'), b'DD "\\n"\nMT a\nD  "\\303"\n')
 
     # Exit statuses, outputs and faults over an index for which git prints INDEX_LINES.
     INDEX_LINES = b"AM a\nA  b\n"
-    INDEX_RIGHT = [(1, b" M a\n", b"")] + [(2, out, b"git dirty: bad checksum\n") for out in (b"", b" M a\n")]
-    INDEX_OTHER = [(1, b" M b\n", b""), (0, b"", b"")]
+    INDEX_RIGHT = [(1, INDEX_LINES, b"")] + [(2, out, b"git dirty: bad checksum\n") for out in (b"", b" M a\n")]
+    INDEX_OTHER = [(1, b" M a\n", b""), (1, b"AM b\nA  b\n", b""), (0, b"", b"")]
     # These are wrong whatever git prints.
     INDEX_WRONG = [(0, b" M a\n", b""), (1, b"", b""), (2, b" M", b"git dirty: a\n")]
     INDEX_WRONG += [(status, b"", b"git dirty: a\n") for status in (None, -6, -11, 0, 1, 3, 101)]
@@ -194,7 +199,9 @@ class Spoilt(unittest.TestCase):
         self.assertEqual([end for end in self.INDEX_RIGHT if wrong(end)], [])
         self.assertEqual([end for end in self.INDEX_OTHER if not wrong(end)], [])
         self.assertEqual([end for end in self.INDEX_WRONG if not wrong(end) or not wrong(end, end[1])], [])
-        self.assertIsNone(wrong((0, b"", b""), b"A  a\n"))
+        for columns, end in zip(COLUMNS, ((1, self.INDEX_LINES), (1, b" M a\n"), (1, b"A  a\nA  b\n"))):
+            judged = partial(mutate_index.judged, Ended(*end, b""), lambda: Ended(0, self.INDEX_LINES, b""))
+            self.assertEqual([judged(columns=its)[0] is None for its in COLUMNS], [its == columns for its in COLUMNS])
 
     def test_an_index_that_git_refuses_is_no_success(self):
         refused = lambda: Ended(128, b"", b"fatal: bad\n")

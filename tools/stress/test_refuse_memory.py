@@ -160,8 +160,7 @@ class StandIns(unittest.TestCase):
         """Sweeps over a stand-in that does this after a refusal. Returns how many calls came, and the wrong runs."""
         with tempfile.TemporaryDirectory() as room:
             program = os.path.join(room, "stand_in")
-            with open(program + ".c", "w", encoding="ascii") as file:
-                file.write(source.replace("REFUSED", refused))
+            write(program + ".c", source.replace("REFUSED", refused))
             subprocess.run(["cc", "-pthread", "-o", program, program + ".c"], check=True)
             with sweeper(row, 1, program, seconds) as it:
                 return [it.sweep(on, 1) for on in (False, True)]

@@ -71,10 +71,9 @@ class Seeds(unittest.TestCase):
             self.assertGreater(len({repr(case) for case in cases}), len(cases) * 9 // 10)
 
     def test_a_seed_always_makes_the_same_case(self):
-        makers = {"histories": history}
         with tempfile.TemporaryDirectory() as room:
             base = mutate_index.Base(f"{room}/base", "sha1")
-            makers["index files"] = lambda seed: mutate_index.mutated(random.Random(seed), base)
+            makers = {"histories": history, "index files": lambda seed: mutate_index.mutated(random.Random(seed), base)}
             for name, make in makers.items():
                 self.assert_same(name, partial(map, make, range(200)))
             for kind in (Drawing, AttributeDrawing):
@@ -104,7 +103,7 @@ class Scripts(unittest.TestCase):
         for script, kept in self.KEPT.items():
             with self.subTest(script), tempfile.TemporaryDirectory() as room:
                 status, line, said = self.ran(script, "--seeds", "1", "--keep", f"{room}/made/kept")
-                self.assertRegex(line, "^1 seeds, [1-9] wrong$")
+                self.assertRegex(line, r"^1 seeds, [1-9]\d* wrong$")
                 self.assertEqual((status, said, sorted(os.listdir(f"{room}/made/kept"))), (1, "", kept))
                 self.assertEqual(self.ran(script, "--seeds", "0"), (0, "0 seeds, 0 wrong", ""))
         status, line, said = self.ran(*self.SWEEP)

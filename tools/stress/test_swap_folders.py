@@ -16,8 +16,8 @@ FAULT = "status failed: not found\n"
 
 def total(processed=200, looks=200, read=150):
     """Returns a total line with these counts."""
-    counts = f"lstat {looks}, to update 0, racy 0, read {read}"
-    return f"total: to process 200, processed {processed}, skipped 0, {counts}, bytes 450\n"
+    counts = f"processed {processed}, skipped 0, lstat {looks}, to update 0, racy 0, read {read}"
+    return f"total: to process 200, {counts}, bytes 450\n"
 
 
 RIGHT = [(0, total(), ""), (0, "3 removed\n7 removed\n" + total(), ""), (1, "", FAULT), (1, "3 removed\n", FAULT)]

@@ -68,11 +68,9 @@ def entry_bytes(parts, entry, last):
     more = b"" if entry.more is None else FLAGS.pack(entry.more)
     front = STAT.pack(*entry.stat) + entry.name + FLAGS.pack(entry.flags) + more
     if parts.version == 4:
-        shared = len(os.path.commonprefix([last, entry.path]))
-        dropped = max(0, len(last) - shared + entry.strip)
+        dropped = max(0, len(last) - len(os.path.commonprefix([last, entry.path])) + entry.strip)
         return front + varint(dropped) + entry.path[max(0, len(last) - dropped) :] + b"\0" + entry.padding
-    size = len(front) + len(entry.path)
-    return front + entry.path + (entry.padding + bytes(8))[: 8 - size % 8]
+    return front + entry.path + (entry.padding + bytes(8))[: 8 - len(front + entry.path) % 8]
 
 
 def varint(number):
@@ -100,8 +98,7 @@ def checksum_of(content, kind):
 
 def parts_of(kind, content):
     """Returns the parts of a file that git wrote."""
-    width = KINDS[kind]
-    _, version, count = HEADER.unpack_from(content)
+    width, (_, version, count) = KINDS[kind], HEADER.unpack_from(content)
     at, entries, path = HEADER.size, [], b""
     for _ in range(count):
         start = at

@@ -65,8 +65,7 @@ class Runner:
             empty(file.fileno())
             actions.append((os.POSIX_SPAWN_DUP2, file.fileno(), number))
         child = os.posix_spawn(self.program, [self.program, *words], settings or {}, file_actions=actions)
-        status = self.wait(child)
-        return Ended(status, *(content(file.fileno()) for file in self.files))
+        return Ended(self.wait(child), *(content(file.fileno()) for file in self.files))
 
     def wait(self, child):
         """Returns the exit status. A child that runs for too long is ended, and has none."""
@@ -97,15 +96,12 @@ class Starved:
         self.report.close()
 
     def run(self, words, at=0, on=False, **settings):
-        """Refuses this call, and with `on` all after it. Returns how the run ends, and a letter for each refused call.
-
-        If no call is refused, `at` is 0, and the letters are those of all calls.
-        """
+        """Refuses this call, and with `on` all after it. Returns how the run ends, and a letter for each refused call. If no
+        call is refused, `at` is 0, and the letters are those of all calls."""
         number = self.report.fileno()
         empty(number)
         settings |= {"LD_PRELOAD": self.library, "REFUSE_REPORT": str(number), "REFUSE_AT": str(at), "REFUSE_ON": str(int(on))}
-        ended = self.runner.run(words, settings)
-        return ended, content(number).decode()
+        return self.runner.run(words, settings), content(number).decode()
 
 
 def empty(file):

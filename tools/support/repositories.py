@@ -3,6 +3,7 @@
 Settings of the user, or of a hook that runs the tests, must not change what git does, so they leave the environment here.
 """
 
+import ast
 import hashlib
 import os
 import socket
@@ -18,6 +19,8 @@ THEN = 1_600_000_000
 FOO = "19102815663d23f8b75a47e7a01965dcdc96468c"
 # The columns of conflicts.
 CONFLICTS = {b"DD", b"AU", b"UD", b"UA", b"DU", b"AA", b"UU"}
+# The words for both columns, and for each alone.
+COLUMNS = ([], ["--worktree"], ["--staged"])
 SETTINGS = {"GIT_CONFIG_GLOBAL": os.devnull, "GIT_CONFIG_NOSYSTEM": "1", "LC_ALL": "C", "HOME": "/nonexistent"}
 for name in [name for name in os.environ if name.startswith("GIT_") and name != "GIT_DIRTY" or name == "XDG_CONFIG_HOME"]:
     del os.environ[name]
@@ -32,15 +35,27 @@ def status_words(top, *words):
     return ["--literal-pathspecs", "-C", top, "-c", "core.preloadIndex=false", *STATUS_OF_HEADS[1:], *words]
 
 
-def as_dirty(printed, end=b"\n"):
-    """Returns git's lines as the program prints them: the index isn't compared with HEAD."""
-    found = []
+def as_dirty(printed, *words):
+    """Returns git's lines as the program prints them with these words: --staged and --worktree blank the other column, except in
+    conflicts, and lines without a letter are left out."""
+    end, found = b"\0" if "-z" in words else b"\n", []
     for line in printed.split(end)[:-1]:
-        if line[:2] in CONFLICTS:
-            found.append(line)
-        elif line[1:2] != b" ":
-            found.append(b" " + line[1:])
-    return b"".join(line + end for line in found)
+        front = line[:1] + b" " if "--staged" in words else b" " + line[1:2] if "--worktree" in words else line[:2]
+        front = line[:2] if line[:2] in CONFLICTS else front
+        if front != b"  ":
+            found.append(front + line[2:] + end)
+    return b"".join(found)
+
+
+def merged(staged, lines):
+    """Returns these lines of the second column with the letters of the first one. Conflicts are those of the second."""
+    found = {line[3:]: line[:2] for line in staged.splitlines(True) if line[:2] not in CONFLICTS}
+    both = [line for line in lines.splitlines(True) if line[:2] in CONFLICTS]
+    for line in {*lines.splitlines(True)}.difference(both):
+        # A blank is less than a letter.
+        found[line[3:]] = bytes(map(max, line[:2], found.get(line[3:], b"  ")))
+    both = [front + b" " + path for path, front in found.items()] + both
+    return b"".join(sorted(both, key=lambda it: ast.literal_eval(f"b{it[3:].decode()}") if it[3:4] == b'"' else it[3:-1]))
 
 
 def wait_for_later_second():

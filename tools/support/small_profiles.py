@@ -4,7 +4,7 @@ import json
 import os
 from dataclasses import dataclass, field
 
-from support.repositories import id_of, write
+from support.repositories import id_of, read, write
 
 # The second in which the entries and their files were last changed.
 OLD = 4
@@ -30,8 +30,7 @@ class Row:
 
     @property
     def is_joined(self):
-        options = self.profile.get("options", {})
-        return any(options.get(name) for name in ("untracked", "renames", "sort"))
+        return any(self.profile.get("options", {}).get(name) for name in ("untracked", "renames", "sort"))
 
     def words(self, file):
         """Returns the program's arguments for a profile in this file."""
@@ -70,18 +69,15 @@ def taken_out(file):
     texts = {}
     for ending in (".out", ".out.lock"):
         if os.path.lexists(file + ending):
-            with open(file + ending, encoding="utf-8", errors="replace", newline="") as left:
-                texts[ending] = left.read()
+            texts[ending] = read(file + ending).decode(errors="replace")
             os.remove(file + ending)
     return texts
 
 
 def wrong_files(file, status, old=None, new=None):
-    """Returns what is wrong with the files that a refresh leaves next to a profile's, or None. Removes them.
-
-    A refresh that failed leaves the file that it writes to unchanged: `old`, or not there. Otherwise the file is there,
-    with the text `new` if that is known. No lock is left in any case.
-    """
+    """Returns what is wrong with the files that a refresh leaves next to a profile's, or None. Removes them. A refresh that
+    failed leaves the file that it writes to unchanged: `old`, or not there. Otherwise the file is there, with the text `new`
+    if that is known. No lock is left in any case."""
     texts = taken_out(file)
     out = texts.get(".out")
     if ".out.lock" in texts:
@@ -115,6 +111,7 @@ def node(path, text, **more):
 MODIFIED = {"timestamp": [9, 0], "options": {"chunk_size": 1}}
 MODIFIED["index"] = [entry("a", "foo", mtime=[5, 0]), entry("b", "bar", mtime=[5, 0])]
 MODIFIED["worktree"] = [node("a", "bars"), node("b", "bar", mtime=[5, 0])]
+CONFLICT_TOTALS = "total: to process 5, processed 3, skipped 0, lstat 2, to update 0, racy 0, read 0, bytes 0\n"
 CONFLICT = {"timestamp": [9, 0], "options": {"chunk_size": 2, "counts": True}}
 CONFLICT["index"] = [entry("a", "foo"), *(entry("f", "foo", stage=stage) for stage in (1, 2, 3)), entry("g", "foo")]
 CONFLICT["worktree"] = [node(path, "foo", mtime=[OLD, 0]) for path in ("a", "f", "g")]
@@ -134,28 +131,19 @@ LONG = "/".join(["long" * 20] * 4)
 FOLDER = {"timestamp": [9, 0], "options": {"trust_ctime": False, "check_stat": False, "chunk_size": 1}, "folder": "folder"}
 FOLDER["index"] = [entry("d/changed", "foo"), entry("gone", "foo"), entry("link", "away", mode="120000")]
 FOLDER["index"] += [entry(LONG, "foo"), entry("same", "foo")]
+FOLDER_LINES = f'0 modified -c- "d/changed"\n1 removed "gone"\n2 modified -c- "link"\n3 modified -c- "{LONG}"\n'
+FOLDER_FILES = {"d/changed": "bars", LONG: "bars", "same": "foo"}
 MALFORMED = {"timestamp": [9, 0], "index": [entry("a", "foo"), {"path": "b", "id": "c0ffee"}], "worktree": []}
 
 ROWS = {
     "modified": Row("status", MODIFIED, '0 modified -c- "a"\n'),
-    "conflict": Row(
-        "status",
-        CONFLICT,
-        '1 conflict both-modified 123 "f"\n'
-        "total: to process 5, processed 3, skipped 0, lstat 2, to update 0, racy 0, read 0, bytes 0\n",
-    ),
+    "conflict": Row("status", CONFLICT, '1 conflict both-modified 123 "f"\n' + CONFLICT_TOTALS),
     "history": Row("replay", HISTORY, 'run 1\n0 modified -cs "a"\n1 update "b"\nrun 2\n0 modified -c- "a"\n'),
     "reopened": Row("replay", REOPENED, 'run 1\n0 modified -cs "a"\n1 update "b"\nrun 2\n0 modified -c- "a"\n'),
     "refreshed": Row("refresh", MODIFIED, '0 modified -c- "a"\n'),
     "refreshed_over": Row("refresh", MODIFIED, '0 modified -c- "a"\n', old="what was there\n"),
     "listed": Row("status", LISTED, '0 modified -c- "d/a"\n- added "b"\n- added "d/c"\n- added "d/e/f"\n- added "l"\n'),
     "renames": Row("status", RENAMES, '- renamed "a" "b"\n- added "c"\n1 modified -c- "m"\n- added "n"\n- added "o"\n'),
-    "folder": Row(
-        "status",
-        FOLDER,
-        f'0 modified -c- "d/changed"\n1 removed "gone"\n2 modified -c- "link"\n3 modified -c- "{LONG}"\n',
-        files={"d/changed": "bars", LONG: "bars", "same": "foo"},
-        links={"link": "elsewhere"},
-    ),
+    "folder": Row("status", FOLDER, FOLDER_LINES, files=FOLDER_FILES, links={"link": "elsewhere"}),
     "malformed": Row("status", MALFORMED, fault="bad profile: index\n"),
 }

@@ -3,11 +3,13 @@
 ghost use Rattle.std.specs.Prelude.{IfOk};
 ghost use Rattle.git_status.specs.Reads.{IsRead};
 
+use crate::head::{HeadCommit, head_at};
 use crate::index_file::{FoundIndex, read_index_file};
 use crate::refresh::Refresh;
 use crate::refused::{Illformed, Refused};
-use crate::request::{Request, Selected, selected_by};
+use crate::request::{Columns, Request, Selected, selected_by};
 use crate::selection::{Exceptions, check_each, tops_of, untracked_of};
+use crate::staged::run_staged;
 use git_attributes::AttributeFiles;
 use git_explain::{Wanted, run_explain};
 use git_repository::{
@@ -16,7 +18,8 @@ use git_repository::{
 };
 use git_status::lines::LineStyle;
 use git_status::{
-    Asked, Failure, Paths, ReadIndex, Refreshed, Settings, print_failure, run_dirty, run_refresh,
+    Asked, Failure, Paths, ReadIndex, Refreshed, Settings, Top, print_failure, run_dirty,
+    run_refresh,
 };
 use status_base::worktree::{DiskWorktree, Pathspec, StatFields, SubmoduleStatus, Worktree};
 use status_call::index_as_worktree::{Capabilities, Options};
@@ -24,11 +27,13 @@ use status_index::{Moment, State, stat};
 use std::alloc::{AllocError, Global};
 use std::env;
 use std::io::{self, Write as _};
+use std::os::unix::fs::FileExt;
 use std::path::Path;
 use std::rt::{Env, Files};
 use std::sync::Wait;
 use std::sync::atomic::{AtomicBool, Ordering};
 use std::thread::Threads;
+use text_output::OutputError;
 
 /// The number of entries of a piece of work if the first difference ends the call. Each thread has at most 8 pieces before
 /// the call sees that it may end: some 2,000 entries with the usual 4 threads.
@@ -37,21 +42,24 @@ const SMALL_CHUNK: usize = 64;
 /// The exit status of a failure.
 const FAILED: u8 = 2;
 
-/// Returns whether a tracked file of the checkout that has this folder differs from the index, as `git dirty -q` does. None
-/// after a failure, whose line is written to `faults`. Nothing is written to the disk, and the working folder stays.
+/// Returns whether a tracked file of the checkout that has this folder differs from HEAD or from the index, as `git dirty -q`
+/// does. `columns` may ask for one of the two. None after a failure, whose line is written to `faults`. Nothing is written to
+/// the disk, and the working folder stays.
 ///
-/// A change that is staged doesn't count, and neither does an untracked file.
+/// An untracked file doesn't count.
 pub fn is_dirty<R: AllocGlobal + Env + Files + Sync + Threads + Wait, E: io::Write>(
     rt: &R,
     folder: &str,
+    columns: Columns,
     faults: &mut E,
 ) -> Option<bool>
 where
-    R::File: Send,
+    R::File: FileExt + Send + Sync,
     R::Dir: Send,
 {
     let request = Request {
         quiet: true,
+        columns,
         ..Request::new(rt.alloc(), folder)
     };
     match run(rt, &request, &mut io::sink(), faults) {
@@ -62,7 +70,7 @@ where
 }
 
 /// Writes the lines of the checkout's differences to `output`, and notes and failures to `faults`. Returns the exit status of
-/// `git dirty`: 0 if nothing differs, 1 if an entry differs, and 2 after a failure. A path that isn't UTF-8 fails by itself:
+/// `git dirty`: 0 if nothing is staged and nothing differs, 1 if something is or does, and 2 after a failure. A path that isn't UTF-8 fails by itself:
 /// all other lines are written, then a line for each such path, and the index isn't refreshed.
 pub fn run<R: AllocGlobal + Env + Files + Sync + Threads + Wait, O: io::Write, E: io::Write>(
     rt: &R,
@@ -71,11 +79,16 @@ pub fn run<R: AllocGlobal + Env + Files + Sync + Threads + Wait, O: io::Write, E
     faults: &mut E,
 ) -> u8
 where
-    R::File: Send,
+    R::File: FileExt + Send + Sync,
     R::Dir: Send,
 {
-    match run_in_repository(rt, request, output, faults) {
+    let ended = match request.columns {
+        Columns::Staged => run_staged(rt, request, output),
+        Columns::Both | Columns::Worktree => run_in_repository(rt, request, output, faults),
+    };
+    match ended {
         Ok(status) => status,
+        Err(Refused::Index(Failure::Output(OutputError::Closed))) => FAILED,
         Err(refused) => print_failure(rt.alloc(), refused, faults),
     }
 }
@@ -83,7 +96,7 @@ where
 /// Does the same in the repository of the request's folder.
 ///
 /// # Errors
-/// There is no repository, its index or a setting can't be read, a path isn't in its worktree, is a pattern or selects
+/// There is no repository, its index, HEAD or a setting can't be read, a path isn't in its worktree, is a pattern or selects
 /// nothing, or the index can't be refreshed.
 fn run_in_repository<
     R: AllocGlobal + Env + Files + Sync + Threads + Wait,
@@ -91,28 +104,33 @@ fn run_in_repository<
     E: io::Write,
 >(rt: &R, request: &Request<'_>, output: &mut O, faults: &mut E) -> Result<u8, Refused>
 where
-    R::File: Send,
+    R::File: FileExt + Send + Sync,
     R::Dir: Send,
 {
     let alloc = rt.alloc();
     let repository = Repository::discover(rt, request.folder)?;
     let top = repository.top.as_str();
     let selected = selected_by(rt, &repository, &request.paths)?;
-    let tops = tops_of(alloc, &selected)?;
+    let head = head_of_request(rt, &repository, request)?;
     let Some(file) = read_index_file(rt, &repository)? else {
+        if head.is_some() {
+            return run_staged(rt, request, output);
+        }
         check_without_index(rt, top, &selected)?;
         return Ok(0);
     };
     let settings = settings_of(&repository, request, file.timestamp);
     let read = read_for(request, alloc, &file.bytes, &settings)?;
     let worktree = worktree_at(rt, top, request.enter)?;
-    check_each(alloc, &read.file.state, &worktree, &selected)?;
+    check_each(alloc, &read.file.state, &worktree, &head, &selected)?;
     let ignored = IgnoredSubmodules::read(rt, top, &repository.config, &read.file.state)?;
     let Exceptions {
         left_out,
         intended,
         illformed,
     } = Exceptions::of(alloc, &read.file.state, &worktree, &selected, &ignored)?;
+    let tops = tops_of(alloc, &selected)?;
+    let staged_tops = tops_of(alloc, &selected)?;
     let unread = AtomicBool::new(false);
     let attributes = GitAttributeFiles::new(rt, &repository)?;
     let asked = Asked {
@@ -124,6 +142,7 @@ where
             left_out: &left_out,
         },
         attributes,
+        head: &head,
         unread: &unread,
     };
     let begun = if request.refresh {
@@ -134,6 +153,7 @@ where
     let untracked = untracked_of(alloc, &read.file.state, &selected)?;
     let nested = Nested {
         top,
+        tops: &staged_tops,
         intended: &intended,
         wanted: Wanted {
             all: !selected.is_empty(),
@@ -181,18 +201,42 @@ fn read_for<'b>(
     ReadIndex::unchecked(alloc, bytes, settings)
 }
 
+/// Returns HEAD's commit, if the index is compared with it. An explanation is of the second column alone.
+///
+/// # Errors
+/// HEAD or its commit can't be read, or git reads other objects than those of the repository.
+fn head_of_request<'r, R: AllocGlobal + Env + Files>(
+    rt: &'r R,
+    repository: &Repository,
+    request: &Request<'_>,
+) -> Result<Option<HeadCommit<'r, R>>, Refused>
+where
+    R::File: FileExt,
+{
+    match request.columns {
+        Columns::Both | Columns::Staged if !request.explain => {
+            Ok(Some(HeadCommit::read(rt, repository)?))
+        }
+        _ => Ok(None),
+    }
+}
+
 /// Checks the selected paths in a repository without an index file, which has no entries.
 ///
 /// # Errors
 /// Nothing is at one, or out of memory.
-fn check_without_index<R: AllocGlobal + Env + Files>(
-    rt: &R,
+fn check_without_index<'r, R: AllocGlobal + Env + Files>(
+    rt: &'r R,
     top: &str,
     selected: &[Selected<'_>],
-) -> Result<(), Refused> {
+) -> Result<(), Refused>
+where
+    R::File: FileExt,
+{
     let nothing = State::new(rt.alloc(), Moment { secs: 0, nsecs: 0 });
     let worktree = git_worktree(rt, top)?;
-    check_each(rt.alloc(), &nothing, &worktree, selected)
+    let none: Option<HeadCommit<'r, R>> = None;
+    check_each(rt.alloc(), &nothing, &worktree, &none, selected)
 }
 
 /// Writes a failure for each path that can't be compared since it isn't UTF-8, and returns the exit status of a failure.
@@ -217,7 +261,7 @@ fn worktree_at<'r, R: AllocGlobal + Env + Files>(
 }
 
 /// Returns the worktree that begins at `top`, with all that git records of a file.
-fn git_worktree<'r, R: AllocGlobal + Files>(
+pub(crate) fn git_worktree<'r, R: AllocGlobal + Files>(
     rt: &'r R,
     top: &str,
 ) -> Result<DiskWorktree<&'r R>, AllocError> {
@@ -229,6 +273,8 @@ fn git_worktree<'r, R: AllocGlobal + Files>(
 struct Nested<'x> {
     /// The worktree's folder.
     top: &'x str,
+    /// The paths at which the index is compared with HEAD.
+    tops: &'x [Top<'x>],
     /// The entries at whose paths they count.
     intended: &'x State,
     /// Which paths are explained, if that is asked for.
@@ -240,11 +286,11 @@ struct Nested<'x> {
 fn compare<
     'x,
     'b,
-    R: AllocGlobal + Files + Sync + Threads + Wait,
+    R: AllocGlobal + Env + Files + Sync + Threads + Wait,
     W: Worktree + Sync,
     S: SubmoduleStatus + Send,
     P: Pathspec + Send,
-    A: AttributeFiles,
+    A: AttributeFiles + Send,
     O: io::Write,
     E: io::Write,
 >(
@@ -252,12 +298,12 @@ fn compare<
     request: &Request<'_>,
     read: ReadIndex<'b>,
     nested: Nested<'x>,
-    asked: Asked<'x, W, S, P, A>,
+    asked: Asked<'x, W, S, P, A, Option<HeadCommit<'x, R>>>,
     output: &mut O,
     faults: &mut E,
 ) -> Refreshed<'b>
 where
-    R::File: Send,
+    R::File: FileExt + Send + Sync,
     R::Dir: Send,
     W::File: Send,
     S::Output: Send,
@@ -269,12 +315,19 @@ where
         worktree: asked.worktree,
         intended: nested.intended,
     };
+    let nothing = State::new(rt.alloc(), Moment::default());
+    let paths = Paths {
+        tops: nested.tops,
+        left_out: &nothing,
+    };
+    let beside = head_at(asked.head, paths);
     let asked = Asked {
         settings: asked.settings,
         worktree: &worktree,
         submodules: asked.submodules,
         paths: asked.paths,
         attributes: asked.attributes,
+        head: &beside,
         unread: asked.unread,
     };
     if request.refresh && !request.explain {
@@ -325,7 +378,11 @@ fn note<E: io::Write>(faults: &mut E, words: &'static str) {
 }
 
 /// Returns how a repository's entries are compared and printed.
-fn settings_of(repository: &Repository, request: &Request<'_>, timestamp: Moment) -> Settings {
+pub(crate) fn settings_of(
+    repository: &Repository,
+    request: &Request<'_>,
+    timestamp: Moment,
+) -> Settings {
     let found = &repository.settings;
     // A refresh compares all entries.
     let stops = request.quiet && !request.refresh;

@@ -2,17 +2,21 @@
 //! it.
 //!
 //! Read `request` first, the options of a call and the paths that it selects, and then `checkout`, the calls. They find
-//! the repository, read its index file (`index_file`) and choose its entries (`selection`). The contract of the comparison
-//! is that of `run_dirty` in the crate git_status. `refresh` writes the new index file, and `refused` is why a call can't
-//! begin.
+//! the repository, read HEAD's commit (`head`, which asks `replaced` whether git reads other objects), read the index
+//! file (`index_file`) and choose its entries (`selection`). `staged` is the call for the first column alone. The
+//! contract of the comparison is that of `run_dirty` in the crate git_status. `refresh` writes the new index file, and
+//! `refused` is why a call can't begin.
 #![tactic(auto)]
 
 pub mod checkout;
+mod head;
 mod index_file;
 mod refresh;
 mod refused;
+mod replaced;
 pub mod request;
 mod selection;
+mod staged;
 
 pub use checkout::{is_dirty, run};
-pub use request::Request;
+pub use request::{Columns, Request};

@@ -1,12 +1,13 @@
 //! Why a checkout isn't compared, or its index isn't refreshed.
 
+use git_objects::ObjectFault;
 use git_repository::{RepositoryError, Unread};
 use git_status::Failure;
 use git_status::lines::Quoted;
 use std::alloc::{AllocError, AllocFailed, Global};
 use std::{fmt, io};
 
-/// Why no index is compared with a worktree.
+/// Why no index is compared with HEAD or with a worktree.
 #[derive(Debug, Drop)]
 pub enum Refused {
     /// The repository can't be used.
@@ -18,7 +19,7 @@ pub enum Refused {
         /// Why it isn't read.
         why: Unread,
     },
-    /// The index file has no index.
+    /// The index file has no index, HEAD's files can't be read, or the output takes no more.
     Index(Failure),
     /// A path selects nothing that is compared.
     Path {
@@ -34,6 +35,15 @@ pub enum Refused {
         /// Why it might.
         reason: &'static str,
     },
+    /// Objects aren't read as git reads them.
+    Objects {
+        /// Why they aren't.
+        reason: &'static str,
+    },
+    /// The object of HEAD isn't a commit.
+    NoCommit,
+    /// HEAD's commit can't be read.
+    Object(ObjectFault),
     /// The time of the index file isn't known.
     Clock,
     /// Memory ran out.
@@ -47,7 +57,7 @@ pub enum PathRefusal {
     Outside,
     /// It is a pattern.
     Pattern,
-    /// Nothing is there, and the index has no entry at it or below it.
+    /// Nothing is there, and neither the index nor HEAD has a file at it or below it.
     Unmatched,
 }
 
@@ -91,6 +101,12 @@ impl fmt::Display for Refused {
                 f,
                 "the index isn't refreshed, since {reason}: use git update-index --refresh"
             ),
+            Refused::Objects { reason } => write!(
+                f,
+                "the index isn't compared with HEAD, since {reason}: --worktree compares the files alone"
+            ),
+            Refused::NoCommit => f.write_str("HEAD isn't a commit"),
+            Refused::Object(fault) => write!(f, "can't read HEAD's commit: {fault}"),
             Refused::Clock => f.write_str("the time of the index file isn't known"),
             Refused::Memory => f.write_str("out of memory"),
         }
@@ -112,6 +128,15 @@ impl<T: Drop> From<AllocFailed<T>> for Refused {
 impl From<RepositoryError> for Refused {
     fn from(error: RepositoryError) -> Refused {
         Refused::Repository(error)
+    }
+}
+
+impl From<ObjectFault> for Refused {
+    fn from(fault: ObjectFault) -> Refused {
+        match fault {
+            ObjectFault::Memory => Refused::Memory,
+            fault => Refused::Object(fault),
+        }
     }
 }
 

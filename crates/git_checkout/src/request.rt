@@ -5,20 +5,33 @@ use git_repository::{Repository, is_set};
 use std::alloc::Global;
 use std::rt::Env;
 
+/// The columns of lines, which are compared.
+#[derive(Clone, Copy, Debug, PartialEq, Eq)]
+pub enum Columns {
+    /// The index with HEAD, and the worktree with the index.
+    Both,
+    /// The index with HEAD alone. No file of the worktree is asked for.
+    Staged,
+    /// The worktree with the index alone. No object is read.
+    Worktree,
+}
+
 /// The options of a call, as those of the command line of `git dirty`.
 #[derive(Drop)]
 pub struct Request<'a> {
     /// A folder of the worktree. Relative PATHS begin there.
     pub folder: &'a str,
+    /// The columns.
+    pub columns: Columns,
     /// Whether lines end with a zero byte, and paths aren't quoted.
     pub zero: bool,
-    /// Whether nothing is printed, and the call stops at the first difference, unless it refreshes the index.
+    /// Whether nothing is printed, and files are compared only up to the first difference, unless the index is refreshed.
     pub quiet: bool,
     /// Whether the new stats of unchanged files are stored in the index.
     pub refresh: bool,
     /// Whether the counts are printed.
     pub stats: bool,
-    /// Whether explanations are printed in place of lines: the calls that were made for a path, their results, and why the path
+    /// Whether explanations of the second column are printed in place of lines: the calls that were made for a path, their results, and why the path
     /// has its status. If there are PATHS, each path that they select is explained, and otherwise those that differ.
     pub explain: bool,
     /// Whether explanations are objects of JSON.
@@ -37,6 +50,7 @@ impl<'a> Request<'a> {
     pub fn new(alloc: Global, folder: &'a str) -> Request<'a> {
         Request {
             folder,
+            columns: Columns::Both,
             zero: false,
             quiet: false,
             refresh: false,

@@ -1,5 +1,6 @@
 //! The entries of an index that a request compares.
 
+use crate::head::{HeadCommit, files_of};
 use crate::refused::{PathRefusal, Refused};
 use crate::request::Selected;
 use bitflags::Flags as _;
@@ -10,6 +11,8 @@ use status_base::stack::{StackError, SymlinkCheck};
 use status_base::worktree::{NodeKind, Pathspec, Worktree};
 use status_index::{Entry, Flags, State};
 use std::alloc::{AllocError, Global};
+use std::os::unix::fs::FileExt;
+use std::rt::{Env, Files};
 
 /// The flags of entries that aren't compared.
 const SKIPPED: [Flags; 4] = [
@@ -51,21 +54,32 @@ pub(crate) fn tops_of<'a>(
     Ok(tops)
 }
 
-/// Checks that something is at each selected path, or was when it was staged: an entry is at it or below it, or a node is in
-/// the worktree.
+/// Checks that something is at each selected path, or was when it was staged or committed: an entry is at it or below it, a node
+/// is in the worktree, or HEAD's commit has a file.
 ///
 /// # Errors
-/// Nothing is at one, or out of memory.
-pub(crate) fn check_each<W: Worktree>(
+/// Nothing is at one, HEAD's files can't be read, or out of memory.
+pub(crate) fn check_each<R: AllocGlobal + Env + Files, W: Worktree>(
     alloc: Global,
     index: &State,
     worktree: &W,
+    head: &Option<HeadCommit<'_, R>>,
     selected: &[Selected<'_>],
-) -> Result<(), Refused> {
+) -> Result<(), Refused>
+where
+    R::File: FileExt,
+{
+    let mut files = None;
     for one in selected {
-        if !one.path.is_empty() && !has_entry(alloc, index, one)? && !has_node(worktree, one) {
+        if one.path.is_empty() || has_entry(alloc, index, one)? || has_node(worktree, one) {
+            continue;
+        }
+        let committed = files_of(alloc, head, files)?;
+        let is_there = has_entry(alloc, &committed, one)?;
+        if !is_there {
             return Err(Refused::path(alloc, one.word, PathRefusal::Unmatched));
         }
+        files = Some(committed);
     }
     Ok(())
 }
@@ -97,7 +111,11 @@ fn has_node<W: Worktree>(worktree: &W, one: &Selected<'_>) -> bool {
 }
 
 /// Returns whether an entry is at a path or below it. At the path it has to be a submodule's if only a folder is selected.
-fn has_entry(alloc: Global, index: &State, one: &Selected<'_>) -> Result<bool, AllocError> {
+pub(crate) fn has_entry(
+    alloc: Global,
+    index: &State,
+    one: &Selected<'_>,
+) -> Result<bool, AllocError> {
     let path = BStr::new(one.path.as_bytes());
     let mut there = index.entries_at(path).iter();
     if there.any(|entry| !one.is_folder || entry.mode.is_submodule()) {

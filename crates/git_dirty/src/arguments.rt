@@ -1,7 +1,7 @@
 //! The command line.
 
 use clap::{Arg, ArgAction, ArgMatches, Command, value_parser};
-use git_checkout::Request;
+use git_checkout::{Columns, Request};
 use std::alloc::{AllocError, Global};
 
 /// The day of the newest section of `CHANGELOG.md`: there are no releases to name.
@@ -10,16 +10,15 @@ const VERSION: &str = "2026-11-30, unreleased";
 /// What `--help` shows after the options.
 const EXAMPLES: &str = "\
 Examples:
-  git dirty            list the tracked files that differ from the index
+  git dirty            list the tracked files that differ from HEAD or the index
   git dirty -q src     only set the exit status, for the files below src
+  git dirty --staged   list what is staged
   git dirty --explain README.md
                        say why README.md is listed, or isn't
 
 Exit status: 0 if nothing differs, 1 if something does, 2 after a failure.
-A line has the letters of git status --porcelain. The index isn't compared with
-a commit, so the first letter is a space, except for a conflict, and a change
-that is staged doesn't count. A path that selects nothing is a failure, and so
-is one with wildcards.
+A line has the letters of git status --porcelain: what is staged, and what
+isn't. A path that selects nothing is a failure, and so is one with wildcards.
 Files with filters (git LFS), ident or an encoding aren't compared as git does:
 don't rely on this command there.";
 
@@ -37,6 +36,7 @@ pub fn request_of<'a>(alloc: Global, matches: &ArgMatches<'a>) -> Result<Request
         _ => ".",
     };
     Ok(Request {
+        columns: columns_of(matches),
         zero: matches.get_flag("zero"),
         quiet: matches.get_flag("quiet"),
         refresh: matches.get_flag("refresh"),
@@ -50,6 +50,17 @@ pub fn request_of<'a>(alloc: Global, matches: &ArgMatches<'a>) -> Result<Request
     })
 }
 
+/// Returns what is compared.
+fn columns_of(matches: &ArgMatches<'_>) -> Columns {
+    if matches.get_flag("staged") {
+        return Columns::Staged;
+    }
+    if matches.get_flag("worktree") {
+        return Columns::Worktree;
+    }
+    Columns::Both
+}
+
 /// Returns the parser of the command line.
 ///
 /// # Errors
@@ -58,11 +69,13 @@ pub fn command_line<'a>(alloc: Global) -> Result<Command<'a>, AllocError> {
     let command = Command::new(alloc, "git-dirty")
         .bin_name("git dirty")?
         .version(VERSION)
-        .about("Lists the tracked files of a git worktree that differ from the index")
+        .about("Lists the tracked files of a git worktree that differ from HEAD or from the index")
         .after_help(EXAMPLES)
         .arg(folder(alloc))?
         .arg(flag(alloc, "zero", "End lines with a NUL, and don't quote paths").short('z'))?
         .arg(quiet(alloc))?
+        .arg(staged(alloc)?)?
+        .arg(worktree(alloc))?
         .arg(refresh(alloc))?
         .arg(explain(alloc)?)?
         .arg(json(alloc)?)?
@@ -109,6 +122,34 @@ fn quiet<'a>(alloc: Global) -> Arg<'a> {
     .long("quiet")
 }
 
+/// Returns the flag for the first column alone.
+///
+/// # Errors
+/// Out of memory.
+fn staged<'a>(alloc: Global) -> Result<Arg<'a>, AllocError> {
+    flag(
+        alloc,
+        "staged",
+        "List only what is staged: how the index differs from HEAD",
+    )
+    .long("staged")
+    .conflicts_with("worktree")?
+    .conflicts_with("refresh")?
+    .conflicts_with("explain")?
+    .conflicts_with("json")?
+    .conflicts_with("stats")
+}
+
+/// Returns the flag for the second column alone.
+fn worktree<'a>(alloc: Global) -> Arg<'a> {
+    flag(
+        alloc,
+        "worktree",
+        "List only how the files differ from the index",
+    )
+    .long("worktree")
+}
+
 /// Returns the flag that stores times in the index.
 fn refresh<'a>(alloc: Global) -> Arg<'a> {
     flag(
@@ -137,7 +178,7 @@ fn explain<'a>(alloc: Global) -> Result<Arg<'a>, AllocError> {
     flag(
         alloc,
         "explain",
-        "Say why a path is listed, or isn't: with PATHS each of theirs",
+        "Say why a file differs from the index, or doesn't",
     )
     .long("explain")
     .conflicts_with("zero")?

@@ -1,4 +1,4 @@
-//! The program `git dirty`: how a repository's worktree differs from its index.
+//! The program `git dirty`: how a repository's index differs from HEAD, and its worktree from the index.
 #![tactic(auto)]
 
 mod arguments;
@@ -7,6 +7,7 @@ use crate::arguments::{command_line, request_of};
 use clap::Error;
 use clap::error::ErrorKind;
 use git_status::print_failure;
+use std::os::unix::fs::FileExt;
 use std::process::ExitCode;
 use std::rt::{Env, Files};
 use std::sync::Wait;
@@ -25,7 +26,7 @@ fn run<R: AllocGlobal + Env + Eprint + Files + Print + Sync + Threads + Wait, E:
     faults: &mut E,
 ) -> u8
 where
-    R::File: Send,
+    R::File: FileExt + Send + Sync,
     R::Dir: Send,
 {
     let words = match words_of(rt) {

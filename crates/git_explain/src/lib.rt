@@ -1,4 +1,5 @@
-//! Why `git dirty` lists a path, or doesn't: the calls that were made for it, their results, and the rule that decided.
+//! Why a tracked file differs from the index, or doesn't: the calls that were made for it, their results, and the rule that
+//! decided.
 //!
 //! Read `sight` first, the calls for one path with their results. `asking` makes them, and `recorded` is a worktree of their
 //! results alone. `explainer` has the status by it, and `explained` keeps that. `reason`, `comparison` and `words` have the rule

@@ -13,6 +13,7 @@ use crate::json::{push_json, push_other_json};
 use crate::text::{push_other, push_text};
 use bstr::BStr;
 use git_attributes::{AttributeFiles, FolderSearch, LineEnds, attributes_of};
+use git_staged::FindStaged;
 use git_status::{Asked, Question};
 use status_base::worktree::{GuardedWorktree, Pathspec, SubmoduleStatus, Worktree};
 use status_index::{Entry, State};
@@ -47,13 +48,20 @@ pub(crate) struct Explanations {
 ///
 /// # Errors
 /// Out of memory.
-pub(crate) fn explain_each<'a, W: Worktree, S: SubmoduleStatus, P: Pathspec, A: AttributeFiles>(
+pub(crate) fn explain_each<
+    'a,
+    W: Worktree,
+    S: SubmoduleStatus,
+    P: Pathspec,
+    A: AttributeFiles,
+    H: FindStaged,
+>(
     alloc: Global,
     index: &State,
-    asked: Asked<'a, W, S, P, A>,
+    asked: Asked<'a, W, S, P, A, H>,
     wanted: Wanted<'_>,
 ) -> Result<Explanations, AllocError>
-    ensures { IfOk result (λ found. AreExplained (⟦<Asked<'a, W, S, P, A> as Question>⟧.asking asked.entry) (P.included asked.entry.paths) index.now found.differs found.failed) }
+    ensures { IfOk result (λ found. AreExplained (⟦<Asked<'a, W, S, P, A, H> as Question>⟧.asking asked.entry) (P.included asked.entry.paths) index.now found.differs found.failed) }
 {
     let within = FolderSearch::new(alloc, asked.worktree, index, asked.unread).find()?;
     let files = asked.attributes.with_others(alloc, within)?;

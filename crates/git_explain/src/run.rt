@@ -6,6 +6,7 @@ ghost use Rattle.git_status.specs.Printing.{IsFaultLine};
 
 use crate::paths::{Wanted, explain_each};
 use git_attributes::AttributeFiles;
+use git_staged::FindStaged;
 use git_status::{Asked, Question, print_failure};
 use status_base::worktree::{Pathspec, SubmoduleStatus, Worktree};
 use status_index::State;
@@ -22,12 +23,13 @@ pub fn run_explain<
     S: SubmoduleStatus,
     P: Pathspec,
     A: AttributeFiles,
+    H: FindStaged,
     O: io::Write,
     E: io::Write,
 >(
     alloc: Global,
     index: &State,
-    asked: Asked<'a, W, S, P, A>,
+    asked: Asked<'a, W, S, P, A, H>,
     wanted: Wanted<'_>,
     output: &mut O,
     faults: &mut E,
@@ -35,7 +37,7 @@ pub fn run_explain<
     ensures status { (result ≡ 0) ⊎ ((result ≡ 1) ⊎ (result ≡ 2)) }
     ensures line { result ≡ 2 → IsFaultLine (E.contents faults.old) (E.contents faults.new) }
     ensures quiet { result ≢ 2 → E.contents faults.new ≡ E.contents faults.old }
-    ensures explained { result ≢ 2 → AreExplained (⟦<Asked<'a, W, S, P, A> as Question>⟧.asking asked.entry) (P.included asked.entry.paths) index.now (result == 1) false }
+    ensures explained { result ≢ 2 → AreExplained (⟦<Asked<'a, W, S, P, A, H> as Question>⟧.asking asked.entry) (P.included asked.entry.paths) index.now (result == 1) false }
 {
     let Ok(found) = explain_each(alloc, index, asked, wanted) else {
         return print_failure(alloc, "out of memory", faults);

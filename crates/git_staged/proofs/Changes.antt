@@ -9,6 +9,7 @@ use Rattle.status_index.specs.declared.entry.PathStorage.{PathStorage}
 use Rattle.status_index.specs.declared.entry.TheConstants.Flags.{INTENT_TO_ADD}
 use Rattle.status_index.specs.Entries.{IndexEntry, entry_at, index_entry, path_in}
 use Rattle.status_index.specs.FlagBits.{has_bits}
+use Rattle.status_index.specs.Mode.{is_submodule}
 use Rattle.git_staged.specs.declared.letters.Letter.{Letter}
 use Rattle.git_staged.specs.Letters.{and_change, is_intended}
 
@@ -16,6 +17,11 @@ use Rattle.git_staged.specs.Letters.{and_change, is_intended}
 pub staged_seen : (backing : PathStorage) (xs : List Entry) → list_any (λ e. not (has_bits e.flags.0 INTENT_TO_ADD.0)) xs ≡ list_any (λ e. not (is_intended e)) (map (index_entry backing) xs)
 staged_seen backing [] = refl
 staged_seen backing (x ∷ xs) = ap (λ (b : Bool). not (has_bits x.flags.0 INTENT_TO_ADD.0) || b) (staged_seen backing xs)
+
+-- So is whether it is a submodule.
+pub submodule_seen : (backing : PathStorage) (xs : List Entry) → list_any (λ e. is_submodule e.mode) xs ≡ list_any (λ e. is_submodule e.mode) (map (index_entry backing) xs)
+submodule_seen backing [] = refl
+submodule_seen backing (x ∷ xs) = ap (λ (b : Bool). is_submodule x.mode || b) (submodule_seen backing xs)
 
 -- A change after others is one after none, appended.
 and_after : (found : List (List ℕ × Letter)) (path : List ℕ) (letter : Option Letter) → and_change found path letter ≡ found ++ and_change [] path letter

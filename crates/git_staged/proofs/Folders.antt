@@ -1,5 +1,5 @@
 -- The items of a folder, one after the other.
-use Rattle.std.proofs.Common.{◌≡◌, ◌≢◌, ℕ, zero, suc, ◌-◌, List, [], ◌∷◌, ◌++◌, map, refl, sym, ◌∙◌, ap, subst, append_assoc, arith}
+use Rattle.std.proofs.Common.{◌≡◌, ◌≢◌, ℕ, suc, ◌-◌, List, [], ◌∷◌, ◌++◌, map, refl, sym, ◌∙◌, ap, subst, append_assoc, arith}
 use Rattle.std.specs.List.{flat_map, AllByRecursion}
 use Rattle.std.proofs.lemmas.Grind.{flat_map-append}
 use Rattle.std.proofs.lemmas.List.{append-nil, map-append}
@@ -12,7 +12,7 @@ use Rattle.git_objects.specs.declared.object.ObjectKind.TheVariants.{Tree}
 use Rattle.git_objects.specs.declared.tree.TreeItem.{TreeItem}
 use Rattle.git_objects.specs.Contents.{BeginsWith}
 use Rattle.git_objects.specs.Objects.{id_of_object}
-use Rattle.git_staged.specs.TreeFiles.{AreItems, HasFiles, HasItems, IsItem, Part}
+use Rattle.git_staged.specs.TreeFiles.{AreItems, HasFiles, IsItem, Part}
 
 abbrev item_of : Part → TreeItem
 item_of p = p.item

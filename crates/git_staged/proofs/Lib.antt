@@ -3,3 +3,4 @@ pub mod Stack
 pub mod Entries
 pub mod Changes
 pub mod Folders
+pub mod Ordered

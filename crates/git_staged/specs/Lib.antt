@@ -2,3 +2,4 @@ pub mod Letters
 pub mod TreeFiles
 pub mod Trees
 pub mod OpenFolders
+pub mod Staged

@@ -1,13 +1,15 @@
 -- The tree that the entries of an index make, and its id.
-use Rattle.std.specs.Prelude.{ℕ, ◌-◌, ◌==◌, Bool, not, List, [], ◌∷◌, ◌++◌, length, take, slice_index, codes, decimal, if◌then◌else◌}
+use Rattle.std.specs.Prelude.{ℕ, ◌-◌, ◌==◌, Bool, not, List, [], ◌∷◌, ◌++◌, length, take, slice_index, codes, if◌then◌else◌}
 use Rattle.std.specs.List.{list_any, slice_split}
 use Rattle.std.specs.Str.{bytes_eq}
+use Rattle.git_objects.specs.declared.object.ObjectKind.TheVariants.{Tree}
+use Rattle.git_objects.specs.Objects.{id_of_object}
 use Rattle.status_index.specs.declared.id.HashKind.{HashKind}
 use Rattle.status_index.specs.declared.id.ObjectId.{ObjectId}
 use Rattle.status_index.specs.declared.mode.Mode.{Mode}
 use Rattle.status_index.specs.declared.mode.Mode.TheVariants.{Dir, File, FileExecutable, Symlink, Commit}
 use Rattle.status_index.specs.declared.entry.TheConstants.Flags.{INTENT_TO_ADD}
-use Rattle.status_index.specs.BlobId.{digest_id, id_bytes}
+use Rattle.status_index.specs.BlobId.{id_bytes}
 use Rattle.status_index.specs.Entries.{IndexEntry, stage_of}
 use Rattle.status_index.specs.FlagBits.{has_bits}
 
@@ -78,9 +80,9 @@ item_start mode name = octal_mode mode ++ codes " " ++ name ++ 0 ∷ []
 abbrev pub item_bytes : Mode → List ℕ → ObjectId → List ℕ
 item_bytes mode name id = item_start mode name ++ id_bytes id
 
--- The id of the tree object with these bytes: the digest of `tree `, their number in decimal, a zero byte and the bytes.
+-- The id of the tree object with these bytes.
 abbrev pub tree_object_id : HashKind → List ℕ → ObjectId
-tree_object_id kind bytes = digest_id kind (codes "tree " ++ decimal (length bytes) ++ 0 ∷ [] ++ bytes)
+tree_object_id kind bytes = id_of_object kind Tree bytes
 
 -- The bytes of a tree: those of its items, in order. A folder's item has the id of the folder's own tree.
 abbrev pub tree_bytes : HashKind → Items → List ℕ

@@ -16,8 +16,8 @@ use thiserror::Error;
 /// How many folders may be within each other, as in newer versions of git (`core.maxTreeDepth`).
 const MOST_FOLDERS: usize = 2048;
 
-/// The most files of a tree. Its folders may be equal, so that few bytes make many files.
-const MOST_FILES: usize = 1 << 23;
+/// The most files and folders of a tree. Its folders may be equal, so that few bytes make many.
+const MOST_ITEMS: usize = 1 << 23;
 
 /// Why a tree isn't read.
 #[derive(Clone, Copy, Debug, PartialEq, Eq, Error)]
@@ -39,9 +39,9 @@ pub enum TreeFault {
     /// The items of a tree aren't in order.
     #[error("the items of a tree aren't in order")]
     NotAscending,
-    /// The tree has more than 8,388,608 files.
-    #[error("the tree has more than 8,388,608 files")]
-    ManyFiles,
+    /// The tree has more than 8,388,608 files and folders.
+    #[error("the tree has more than 8,388,608 files and folders")]
+    ManyItems,
     /// More than 2,048 folders are within each other.
     #[error("more than 2,048 folders are within each other")]
     TooDeep,
@@ -61,7 +61,7 @@ impl From<AllocError> for TreeFault {
 ///
 /// # Errors
 /// An object isn't read or isn't a tree, the items of a tree aren't in order, more than 2,048 folders are within each other,
-/// there are more than 8,388,608 files, or out of memory.
+/// there are more than 8,388,608 files and folders, or out of memory.
 pub fn read_tree<O: ReadObject>(
     alloc: Global,
     objects: &O,
@@ -71,13 +71,22 @@ pub fn read_tree<O: ReadObject>(
 {
     let mut files = State::new(alloc, Moment::default());
     let mut path = Vec::new(alloc);
-    match add_folder(objects, MOST_FOLDERS, tree, &mut path, &mut files) {
+    let mut left = MOST_ITEMS;
+    match add_folder(
+        objects,
+        MOST_FOLDERS,
+        tree,
+        &mut left,
+        &mut path,
+        &mut files,
+    ) {
         Ok(()) => Ok(files),
         Err(fault) => Err(fault),
     }
 }
 
-/// Adds the files of a folder to others. `path` is that of the folder, with a slash at its end, or nothing for the top.
+/// Adds the files of a folder to others. `left` is how many items more the tree may have, and `path` is that of the folder,
+/// with a slash at its end, or nothing for the top.
 ///
 /// # Errors
 /// Those of `read_tree`. Then the path is another one.
@@ -86,6 +95,7 @@ fn add_folder<O: ReadObject>(
     objects: &O,
     depth: usize,
     tree: ObjectId,
+    left: &mut usize,
     path: &mut Vec<u8>,
     files: &mut State,
 ) -> Result<(), TreeFault>
@@ -110,7 +120,7 @@ fn add_folder<O: ReadObject>(
             Ok(None) => return Ok(()),
             Err(fault) => return Err(TreeFault::Object { id: tree, fault }),
         };
-        if let Err(fault) = add_item(objects, depth - 1, first.item, path, files) {
+        if let Err(fault) = add_item(objects, depth - 1, first.item, left, path, files) {
             return Err(fault);
         }
         rest = first.rest;
@@ -126,12 +136,17 @@ fn add_item<O: ReadObject>(
     objects: &O,
     depth: usize,
     item: TreeItem<'_>,
+    left: &mut usize,
     path: &mut Vec<u8>,
     files: &mut State,
 ) -> Result<(), TreeFault>
     ensures path { OnOk result (path.new.items ≡ path.old.items) }
     ensures files { OnOk result ((es : List IndexEntry) × (index_of files.new ≡ index_of files.old ++ es) × IsItem (HasFiles depth) path.old.items item.entry es) }
 {
+    let Some(fewer) = left.checked_sub(1) else {
+        return Err(TreeFault::ManyItems);
+    };
+    *left = fewer;
     let len = path.len();
     path.extend_from_slice(item.name)?;
     let mode = tree_mode(item.mode);
@@ -141,7 +156,7 @@ fn add_item<O: ReadObject>(
         return added;
     }
     path.extend_from_slice(b"/")?;
-    if let Err(fault) = add_folder(objects, depth, item.id, path, files) {
+    if let Err(fault) = add_folder(objects, depth, item.id, left, path, files) {
         return Err(fault);
     }
     path.truncate(len);
@@ -151,13 +166,10 @@ fn add_item<O: ReadObject>(
 /// Adds a file to others.
 ///
 /// # Errors
-/// It isn't after the others in order, there are too many, or out of memory.
+/// It isn't after the others in order, or out of memory.
 fn add_file(files: &mut State, path: &[u8], mode: Mode, id: ObjectId) -> Result<(), TreeFault>
     ensures { OnOk result ((e : IndexEntry) × (index_of files.new ≡ index_of files.old ++ e ∷ []) × IsFile path.now mode id e) }
 {
-    if files.entries().len() >= MOST_FILES {
-        return Err(TreeFault::ManyFiles);
-    }
     match files.push_entry(Stat::default(), id, Flags::empty(), mode, BStr::new(path)) {
         Ok(()) => Ok(()),
         Err(IndexError::Memory) => Err(TreeFault::Memory),

@@ -3,7 +3,7 @@
 ghost use Rattle.std.specs.Prelude.{◌≡◌, ◌++◌, OnOk};
 ghost use Rattle.git_staged.specs.Trees.{tree_object_id, item_bytes, item_start, octal_mode};
 
-use sha2::Digest;
+use git_objects::{ObjectKind, id_of};
 use status_index::{HashKind, Mode, ObjectId};
 use std::alloc::AllocError;
 
@@ -49,29 +49,9 @@ pub(crate) fn push_item(
     bytes.extend_from_slice(id.as_bytes())
 }
 
-/// Returns the id of the tree with these bytes: the digest of `tree `, their number in decimal, a zero byte, and the
-/// bytes. Allocates no memory.
+/// Returns the id of the tree with these bytes. Allocates no memory.
 pub(crate) fn id_of_tree(kind: HashKind, bytes: &[u8]) -> ObjectId
     ensures { result ≡ tree_object_id kind bytes.now }
 {
-    let mut buffer = itoa::Buffer::new();
-    let len = buffer.format(bytes.len()).as_bytes();
-    match kind {
-        HashKind::Sha1 => {
-            let mut hasher = sha1::Sha1::new();
-            hasher.update(b"tree ");
-            hasher.update(len);
-            hasher.update(b"\0");
-            hasher.update(bytes);
-            ObjectId::Sha1(hasher.finalize())
-        }
-        HashKind::Sha256 => {
-            let mut hasher = sha2::Sha256::new();
-            hasher.update(b"tree ");
-            hasher.update(len);
-            hasher.update(b"\0");
-            hasher.update(bytes);
-            ObjectId::Sha256(hasher.finalize())
-        }
-    }
+    id_of(kind, ObjectKind::Tree, bytes)
 }

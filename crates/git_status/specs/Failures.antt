@@ -1,10 +1,12 @@
 -- The command's failure for an error. Out of memory is one failure, wherever it happens.
 use Rattle.git_index.specs.declared.fault.IndexFileError.{IndexFileError}
 use Rattle.git_index.specs.declared.fault.IndexFileError.TheVariants as index
+use Rattle.git_staged.specs.declared.files.TreeFault.{TreeFault}
+use Rattle.git_staged.specs.declared.files.TreeFault.TheVariants as trees
 use Rattle.status_compare.specs.declared.error.Error.{Error}
 use Rattle.status_compare.specs.declared.error.Error.TheVariants as errors
 use Rattle.git_status.specs.declared.failure.Failure.{Failure}
-use Rattle.git_status.specs.declared.failure.Failure.TheVariants.{Index, Status, Memory}
+use Rattle.git_status.specs.declared.failure.Failure.TheVariants.{Head, Index, Status, Memory}
 
 -- The failure for bytes that aren't an index file.
 abbrev pub failure_of_index : IndexFileError → Failure
@@ -17,6 +19,15 @@ failure_of_index (index.Required name) = Index (index.Required name)
 failure_of_index (index.Strip at) = Index (index.Strip at)
 failure_of_index (index.NameLength at) = Index (index.NameLength at)
 failure_of_index (index.Index e) = Index (index.Index e)
+
+-- The failure for the files of HEAD's commit.
+abbrev pub failure_of_head : TreeFault → Failure
+failure_of_head trees.Memory = Memory
+failure_of_head (trees.Object id fault) = Head (trees.Object id fault)
+failure_of_head (trees.NoTree id) = Head (trees.NoTree id)
+failure_of_head trees.NotAscending = Head trees.NotAscending
+failure_of_head trees.ManyItems = Head trees.ManyItems
+failure_of_head trees.TooDeep = Head trees.TooDeep
 
 -- The failure for an error of the status.
 abbrev pub failure_of_status : Error → Failure

@@ -11,7 +11,7 @@ use Rattle.status_call.specs.declared.index_as_worktree.inputs.Inputs.{Inputs}
 use Rattle.status_compare.specs.declared.compare.FastEq.{FastEq}
 use Rattle.git_status.specs.declared.asked.Asked.{Asked}
 
-abbrev pub asked_inputs : {W S P A : Type 0} → Asked W S P A → LineEnds → Inputs (GuardedWorktree W) FastEq S Contents P LineEnds NoLister
+abbrev pub asked_inputs : {W S P A H : Type 0} → Asked W S P A H → LineEnds → Inputs (GuardedWorktree W) FastEq S Contents P LineEnds NoLister
 asked_inputs asked filter = record {
   worktree = guarded asked.worktree false;
   compare = record {};

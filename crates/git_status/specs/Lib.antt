@@ -11,3 +11,4 @@ pub mod Reads
 pub mod RefreshLaw
 pub mod Refreshes
 pub mod Runs
+pub mod StagedRuns

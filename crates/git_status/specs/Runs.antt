@@ -1,5 +1,5 @@
 -- The output and the exit status of the command, over the bytes of an index file and a worktree.
-use Rattle.std.specs.Prelude.{◌≡◌, ◌⊎◌, ℕ, Bool, true, false, IsTrue, List, [], Option, Some, None, is_some, Result, Ok, Err, IfOk, All, ⊤}
+use Rattle.std.specs.Prelude.{◌≡◌, ◌==◌, ◌||◌, ◌⊎◌, ℕ, Bool, true, false, not, IsTrue, List, [], length, Option, Some, None, is_some, Result, Ok, Err, IfOk, All, ⊤}
 use Rattle.std.specs.List.{list_any}
 use Rattle.std.specs.Result.{IsErrAnd}
 use Rattle.std.specs.Io.KnownBytes.{Appends}
@@ -9,7 +9,10 @@ use Rattle.git_attributes.specs.declared.line_ends.LineEnds.{LineEnds}
 use Rattle.git_index.specs.File.{IsFileOf}
 use Rattle.git_index.specs.Refusals.{EndsWithChecksum}
 use Rattle.git_index.specs.declared.fault.IndexFileError.TheVariants.{Checksum}
-use Rattle.git_status.specs.Lines.{differs, visit_lines}
+use Rattle.git_staged.specs.Staged.{MayStage}
+use Rattle.git_staged.specs.declared.files.TreeFault.{TreeFault}
+use Rattle.git_staged.specs.declared.letters.Letter.{Letter}
+use Rattle.git_status.specs.Lines.{differs, row_lines, visit_rows, with_staged}
 use Rattle.git_status.specs.declared.lines.LineStyle.{LineStyle}
 use Rattle.status_call.specs.MayReturn.{MayReturn}
 use Rattle.status_call.specs.EntrySights.{IsViewAllowed}
@@ -34,12 +37,14 @@ use Rattle.git_status.specs.Printing.{IsUnwritten}
 use Rattle.git_status.specs.declared.asked.Settings.{Settings}
 use Rattle.git_status.specs.declared.answer.Report.{Report}
 use Rattle.git_status.specs.declared.failure.Failure.{Failure}
-use Rattle.git_status.specs.declared.failure.Failure.TheVariants.{Index, Interrupted, Memory}
+use Rattle.git_status.specs.declared.failure.Failure.TheVariants.{Head, Index, Interrupted, Memory}
 
--- How a worktree is compared with an index after line ends are converted, which attribute files may be found, and the settings.
+-- How a worktree is compared with an index after line ends are converted, which attribute files may be found for an index, which
+-- staged changes, and the settings.
 pub record Asking (T U : Type 0) : Type 1 where
   pub query : LineEnds → StatusSettings → Query T U
   pub are_files : State → List File → Type 0
+  pub may_stage : MayStage
   -- Which results the worktree and the submodules may return.
   pub may_return : MayReturn U
   pub settings : Settings
@@ -67,9 +72,13 @@ pub record ReadFile {T U : Type 0} (a : Asking T U) (bytes : List ℕ) : Type 0 
 abbrev pub IsWrongChecksum : HashKind → List ℕ → Failure → Type 0
 IsWrongChecksum kind bytes f = (f ≡ Index Checksum) × (EndsWithChecksum kind bytes → ⊥)
 
--- Why the command ends before anything is printed: memory ran out, or the index file's checksum is wrong.
+-- The files of HEAD's commit can't be read.
+abbrev pub IsHeadUnread : Failure → Type 0
+IsHeadUnread f = (fault : TreeFault) × (f ≡ Head fault)
+
+-- Why the command ends before anything is printed: memory ran out, the index file's checksum is wrong, or HEAD can't be read.
 abbrev pub IsEarly : HashKind → List ℕ → Failure → Type 0
-IsEarly kind bytes f = (f ≡ Memory) ⊎ IsWrongChecksum kind bytes f
+IsEarly kind bytes f = (f ≡ Memory) ⊎ (IsWrongChecksum kind bytes f ⊎ IsHeadUnread f)
 
 -- Memory ran out, and nothing was printed.
 abbrev pub IsOutOfMemory : Option (List ℕ) → Failure → Option (List ℕ) → Type 0
@@ -80,35 +89,36 @@ module _ {T U : Type 0} where
   abbrev pub is_difference : Visit T U → Bool
   is_difference v = differs v.status
 
-  -- The lines of records in this style; nothing if the command is quiet.
-  abbrev pub printed_text : Option LineStyle → List (Visit T U) → List ℕ
-  printed_text (Some style) visits = visit_lines style visits
-  printed_text None visits = []
+  -- The lines of what is staged and of records, in this style; nothing if the command is quiet.
+  abbrev pub printed_text : Option LineStyle → List (List ℕ × Letter) → List (Visit T U) → List ℕ
+  printed_text (Some style) staged visits = row_lines style (with_staged (visit_rows visits) staged)
+  printed_text None staged visits = []
 
-  -- The command's report of a status: its outcome; it is dirty if a record is a difference, and a status that ended early has one.
-  pub record IsReport (visits : List (Visit T U)) (answer : Result Outcome Error) (r : Report) : Type 0 where
+  -- The command's report of a status: its outcome; it is dirty if a record is a difference or something is staged, and a status that
+  -- ended early has a difference.
+  pub record IsReport (staged : List (List ℕ × Letter)) (visits : List (Visit T U)) (answer : Result Outcome Error) (r : Report) : Type 0 where
     pub outcome : answer ≡ Ok r.outcome
-    pub dirty : r.dirty ≡ list_any is_difference visits
-    pub early : r.outcome.interrupted ≡ true → r.dirty ≡ true
+    pub dirty : r.dirty ≡ (list_any is_difference visits || not (length staged == 0))
+    pub early : r.outcome.interrupted ≡ true → list_any is_difference visits ≡ true
 
   -- Why a status has no report: it failed, or it ended early without a difference.
   abbrev pub IsUnreported : List (Visit T U) → Result Outcome Error → Failure → Type 0
   IsUnreported visits answer f =
       ((e : Error) × (answer ≡ Err e) × (f ≡ failure_of_status e)) ⊎ ((o : Outcome) × (answer ≡ Ok o) × (o.interrupted ≡ true) × (list_any is_difference visits ≡ false) × (f ≡ Interrupted))
 
-  abbrev pub IsFound : List (Visit T U) → Result Outcome Error → Result Report Failure → Type 0
-  IsFound visits answer (Ok r) = IsReport visits answer r
-  IsFound visits answer (Err f) = IsUnreported visits answer f
+  abbrev pub IsFound : List (List ℕ × Letter) → List (Visit T U) → Result Outcome Error → Result Report Failure → Type 0
+  IsFound staged visits answer (Ok r) = IsReport staged visits answer r
+  IsFound staged visits answer (Err f) = IsUnreported visits answer f
 
   -- The command isn't quiet, and memory ran out before anything was printed, or the output can't be written after a beginning of the lines.
-  pub record IsPrintFailure (lines : Option LineStyle) (visits : List (Visit T U)) (old new : Option (List ℕ)) (f : Failure) : Type 0 where
+  pub record IsPrintFailure (lines : Option LineStyle) (staged : List (List ℕ × Letter)) (visits : List (Visit T U)) (old new : Option (List ℕ)) (f : Failure) : Type 0 where
     pub loud : is_some lines ≡ true
-    pub reason : IsOutOfMemory old f new ⊎ (IsUnwritten f × IsBegun (printed_text lines visits) old new)
+    pub reason : IsOutOfMemory old f new ⊎ (IsUnwritten f × IsBegun (printed_text lines staged visits) old new)
 
   -- All lines were printed, and this was found; or they can't be printed.
-  abbrev pub IsCommandEnd : Option LineStyle → List (Visit T U) → Result Outcome Error → Option (List ℕ) → Result Report Failure → Option (List ℕ) → Type 0
-  IsCommandEnd lines visits answer old result new =
-      (Appends old new (printed_text lines visits) × IsFound visits answer result) ⊎ IsErrAnd result (IsPrintFailure lines visits old new)
+  abbrev pub IsCommandEnd : Option LineStyle → List (List ℕ × Letter) → List (Visit T U) → Result Outcome Error → Option (List ℕ) → Result Report Failure → Option (List ℕ) → Type 0
+  IsCommandEnd lines staged visits answer old result new =
+      (Appends old new (printed_text lines staged visits) × IsFound staged visits answer result) ⊎ IsErrAnd result (IsPrintFailure lines staged visits old new)
 
   -- A status of this index was computed by this query, as the status theorem has it, and over any worktree by what was seen; it ends early
   -- only if the command is quiet; with one thread none is refused.
@@ -126,17 +136,19 @@ module _ {T U : Type 0} where
     pub whole : interruptible ≡ false → IfOk answer (λ o. o.interrupted ≡ false)
     pub alone : OneThreadSpawnsNone query limit answer
 
-  -- A status of this index was computed, and the command ended so.
-  pub record IsStatusRun (query : Query T U) (may : MayReturn U) (index : State) (s : Settings) (old : Option (List ℕ)) (result : Result Report Failure) (new : Option (List ℕ)) : Type 0 where
+  -- A status of this index was computed, and the command ended so, with what is staged.
+  pub record IsStatusRun (may_stage : MayStage) (query : Query T U) (may : MayReturn U) (index : State) (s : Settings) (old : Option (List ℕ)) (result : Result Report Failure) (new : Option (List ℕ)) : Type 0 where
+    pub staged : List (List ℕ × Letter)
+    pub found : may_stage (index_of index) staged
     pub visits : List (Visit T U)
     pub answer : Result Outcome Error
     pub computed : IsComputed query may index s answer visits
-    pub ended : IsCommandEnd s.lines visits answer old result new
+    pub ended : IsCommandEnd s.lines staged visits answer old result new
 
   -- The status of an index that was read was printed.
   abbrev pub IsFileRun : Asking T U → List ℕ → Option (List ℕ) → Result Report Failure → Option (List ℕ) → Type 0
   IsFileRun a bytes old result new =
-      (read : ReadFile a bytes) × IsStatusRun (a.query read.converting.filter (settings a.settings.options read.index)) a.may_return read.index a.settings old result new
+      (read : ReadFile a bytes) × IsStatusRun a.may_stage (a.query read.converting.filter (settings a.settings.options read.index)) a.may_return read.index a.settings old result new
 
   -- The result of the command over the bytes of an index file that was read, and a worktree.
   unfoldable pub IsCommandRun : Asking T U → List ℕ → Option (List ℕ) → Result Report Failure → Option (List ℕ) → Type 0
@@ -161,9 +173,9 @@ module _ {T U : Type 0} where
   abbrev pub NoneDiffers : Query T U → State → Type 0
   NoneDiffers query index = All (λ e. HasNoDifference (verdict query (considered_entries query index) e)) (considered_entries query index)
 
-  -- An index was read of which no considered entry differs from the worktree.
+  -- An index was read in which nothing is staged, and of which no considered entry differs from the worktree.
   abbrev pub IsClean : Asking T U → List ℕ → Type 0
-  IsClean a bytes = (read : ReadFile a bytes) × NoneDiffers (a.query read.converting.filter (settings a.settings.options read.index)) read.index
+  IsClean a bytes = (read : ReadFile a bytes) × a.may_stage (index_of read.index) [] × NoneDiffers (a.query read.converting.filter (settings a.settings.options read.index)) read.index
 
   -- A status of an index that was read, by what was seen of each considered entry.
   pub record SeenBy (a : Asking T U) (index : State) (filter : LineEnds) : Type 0 where
@@ -174,9 +186,9 @@ module _ {T U : Type 0} where
   abbrev pub seen_query : (a : Asking T U) (index : State) (filter : LineEnds) → SeenBy a index filter → Query T U
   seen_query a index filter seen = as_seen (a.query filter (settings a.settings.options index)) seen.views
 
-  -- An index was read of which no considered entry differs, by what was seen of each.
+  -- An index was read in which nothing is staged, and of which no considered entry differs, by what was seen of each.
   abbrev pub IsSeenClean : Asking T U → List ℕ → Type 0
-  IsSeenClean a bytes = (read : ReadFile a bytes) × ∥ ((seen : SeenBy a read.index read.converting.filter) × NoneDiffers (seen_query a read.index read.converting.filter seen) read.index) ∥₁
+  IsSeenClean a bytes = (read : ReadFile a bytes) × a.may_stage (index_of read.index) [] × ∥ ((seen : SeenBy a read.index read.converting.filter) × NoneDiffers (seen_query a read.index read.converting.filter seen) read.index) ∥₁
 
   -- Over a modelled worktree, a command that ended with exit status 0 means this.
   abbrev pub CleanLaw : Asking T U → List ℕ → Type 0

@@ -9,6 +9,7 @@ ghost use Rattle.git_status.specs.Runs.{Asking};
 use crate::lines::LineStyle;
 use crate::status::Compared;
 use git_attributes::AttributeFiles;
+use git_staged::FindStaged;
 use status_base::worktree::{
     Find, Lister, MemoryObjects, NoLister, Pathspec, SubmoduleStatus, Worktree,
 };
@@ -28,7 +29,7 @@ pub struct Settings {
     pub options: Options,
     /// Whether git decides by a file's bytes whether to convert its line ends (`core.autocrlf`), if its attributes don't.
     pub auto_line_ends: bool,
-    /// How lines are printed. With `None` no line is printed, and the first entry that differs ends the command.
+    /// How lines are printed. With `None` no line is printed, and the first entry that differs ends the comparison of files.
     pub lines: Option<LineStyle>,
     /// Whether lines on standard error name the files with other contents that git converts, and the status doesn't.
     pub notes: bool,
@@ -36,9 +37,9 @@ pub struct Settings {
     pub stats: bool,
 }
 
-/// The request of a command: a worktree, which parts of it are compared with an index, and the settings.
+/// The request of a command: a worktree and a commit, which parts of it are compared with an index, and the settings.
 #[derive(Drop)]
-pub struct Asked<'a, W, S, P, A> {
+pub struct Asked<'a, W, S, P, A, H> {
     /// The settings.
     pub settings: Settings,
     /// The worktree.
@@ -49,6 +50,8 @@ pub struct Asked<'a, W, S, P, A> {
     pub paths: P,
     /// The attribute files outside of the worktree, which say how git converts files too.
     pub attributes: A,
+    /// The commit that the index is compared with.
+    pub head: &'a H,
     /// Becomes true if git would read an attribute file that is only in the index. It isn't read here.
     pub unread: &'a AtomicBool,
 }
@@ -58,16 +61,18 @@ pub trait Question {
     /// A submodule's report of a change.
     type Submodule;
 
-    /// How the worktree is compared after line ends are converted, which attribute files may be found, and the settings.
+    /// How the worktree is compared after line ends are converted, which attribute files and staged changes may be found, and the
+    /// settings.
     ghost asking: { Self → Asking (Unit {0}) Self.Submodule };
 }
 
-impl<'a, W: Worktree, S: SubmoduleStatus, P: Pathspec, A: AttributeFiles> Question
-    for Asked<'a, W, S, P, A> {
+impl<'a, W: Worktree, S: SubmoduleStatus, P: Pathspec, A: AttributeFiles, H: FindStaged> Question
+    for Asked<'a, W, S, P, A, H> {
     type Submodule = S::Output;
 
     ghost asking = { λ asked. record {
       query = λ filter. ⟦<Compared<'a, 'a, 'a, 'a, W, S, P> as Ask>⟧.query (asked_inputs asked filter);
+      may_stage = H.may_stage asked.head.now;
       are_files = λ index. AreFilesWith (AreFilesSeen (W.may_stat asked.worktree.now) (W.may_open asked.worktree.now) (folders_of (index_of index))) (A.are_files asked.attributes);
       may_return = record {
         stat = W.may_stat asked.worktree.now;

@@ -16,6 +16,7 @@ use crate::output::print_failure;
 use crate::read::ReadIndex;
 use crate::remarks::{Remarks, print_remarks};
 use git_attributes::AttributeFiles;
+use git_staged::FindStaged;
 use status_base::worktree::{Pathspec, SubmoduleStatus, Worktree};
 use status_call::index_as_worktree::Error;
 use status_index::State;
@@ -24,36 +25,45 @@ use std::sync::Wait;
 use std::thread::Threads;
 use text_output::OutputError;
 
-/// Prints a line to `output` for each entry of an index file that differs from the worktree, in index order. A quiet
-/// command prints nothing, and ends at the first such entry.
+/// Prints a line to `output` for each path that is staged in an index file, or whose entry differs from the worktree, in the
+/// order of paths: the first letter is of what is staged, and the second of the worktree. A quiet command prints nothing, and
+/// ends its status at the first entry that differs.
 ///
-/// Returns the exit status: 0 if no entry differs, 1 if one does, and 2 after a failure, which is one line on `faults`,
-/// or none if the reader of the output has ended. Lines that were printed before it stay. With `stats` a line on `faults`
-/// has the counts.
+/// Returns the exit status: 0 if nothing is staged and no entry differs, 1 if something is or does, and 2 after a failure,
+/// which is one line on `faults`, or none if the reader of the output has ended. Lines that were printed before it stay. With
+/// `stats` a line on `faults` has the counts.
 ///
 /// This holds over any worktree, by what was seen: for each entry there are results that the worktree and its submodules
 /// may return, of `lstat`, of reading the file or the link, and of the submodule, by which it differs exactly if it is listed.
+/// The staged changes are those that `asked.head` found.
 pub fn run_dirty<
     'a,
     R: AllocGlobal + Sync + Threads + Wait,
     W: Worktree + Sync,
     S: SubmoduleStatus + Send,
     P: Pathspec + Send,
-    A: AttributeFiles,
+    A: AttributeFiles + Send,
+    H: FindStaged + Sync,
     O: io::Write,
     E: io::Write,
->(rt: &R, read: &ReadIndex<'_>, asked: Asked<'a, W, S, P, A>, output: &mut O, faults: &mut E) -> u8
+>(
+    rt: &R,
+    read: &ReadIndex<'_>,
+    asked: Asked<'a, W, S, P, A, H>,
+    output: &mut O,
+    faults: &mut E,
+) -> u8
 where
     W::File: Send,
     S::Output: Send,
     requires { IsRead asked.settings read.now }
     ensures status { (result ≡ 0) ⊎ ((result ≡ 1) ⊎ (result ≡ 2)) }
-    ensures clean { result ≡ 0 → IsExit (⟦<Asked<'a, W, S, P, A> as Question>⟧.asking asked.entry) read.now.bytes.now false (O.contents output.old) (O.contents output.new) }
-    ensures clean_seen { result ≡ 0 → IsSeenClean (⟦<Asked<'a, W, S, P, A> as Question>⟧.asking asked.entry) read.now.bytes.now }
+    ensures clean { result ≡ 0 → IsExit (⟦<Asked<'a, W, S, P, A, H> as Question>⟧.asking asked.entry) read.now.bytes.now false (O.contents output.old) (O.contents output.new) }
+    ensures clean_seen { result ≡ 0 → IsSeenClean (⟦<Asked<'a, W, S, P, A, H> as Question>⟧.asking asked.entry) read.now.bytes.now }
     ensures lines_seen { result ≢ 2 → (style : LineStyle) → asked.entry.settings.lines ≡ Some style
-        → PrintsSeen (⟦<Asked<'a, W, S, P, A> as Question>⟧.asking asked.entry) style read.now.bytes.now (O.contents output.old) (O.contents output.new) }
-    ensures dirty { result ≡ 1 → IsExit (⟦<Asked<'a, W, S, P, A> as Question>⟧.asking asked.entry) read.now.bytes.now true (O.contents output.old) (O.contents output.new) }
-    ensures failed { result ≡ 2 → IsFailedExit (⟦<Asked<'a, W, S, P, A> as Question>⟧.asking asked.entry) read.now.bytes.now (O.contents output.old) (O.contents output.new) }
+        → PrintsSeen (⟦<Asked<'a, W, S, P, A, H> as Question>⟧.asking asked.entry) style read.now.bytes.now (O.contents output.old) (O.contents output.new) }
+    ensures dirty { result ≡ 1 → IsExit (⟦<Asked<'a, W, S, P, A, H> as Question>⟧.asking asked.entry) read.now.bytes.now true (O.contents output.old) (O.contents output.new) }
+    ensures failed { result ≡ 2 → IsFailedExit (⟦<Asked<'a, W, S, P, A, H> as Question>⟧.asking asked.entry) read.now.bytes.now (O.contents output.old) (O.contents output.new) }
     ensures line { result ≡ 2 → IsFaultLine (E.contents faults.old) (E.contents faults.new) }
     ensures quiet { result ≢ 2 → asked.entry.settings.stats ≡ false → asked.entry.settings.notes ≡ false → E.contents faults.new ≡ E.contents faults.old }
 {
@@ -111,19 +121,20 @@ pub fn print_file<
     W: Worktree + Sync,
     S: SubmoduleStatus + Send,
     P: Pathspec + Send,
-    A: AttributeFiles,
+    A: AttributeFiles + Send,
+    H: FindStaged + Sync,
     O: io::Write,
 >(
     rt: &R,
     read: &ReadIndex<'_>,
-    asked: Asked<'a, W, S, P, A>,
+    asked: Asked<'a, W, S, P, A, H>,
     output: &mut O,
 ) -> Result<Report, Failure>
 where
     W::File: Send,
     S::Output: Send,
     requires { IsRead asked.settings read.now }
-    ensures { IsCommandRun (⟦<Asked<'a, W, S, P, A> as Question>⟧.asking asked.entry) read.now.bytes.now (O.contents output.old) result (O.contents output.new) }
+    ensures { IsCommandRun (⟦<Asked<'a, W, S, P, A, H> as Question>⟧.asking asked.entry) read.now.bytes.now (O.contents output.old) result (O.contents output.new) }
 {
     let Found { report, .. } = asked.print_index(rt, read, false, output)?;
     Ok(report)

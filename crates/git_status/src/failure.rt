@@ -1,12 +1,13 @@
 //! Why the command fails.
 
 ghost use Rattle.std.specs.Prelude.{◌≡◌};
-ghost use Rattle.git_status.specs.Failures.{failure_of_index, failure_of_status};
+ghost use Rattle.git_status.specs.Failures.{failure_of_head, failure_of_index, failure_of_status};
 ghost use Rattle.git_status.specs.declared.failure.Failure.TheVariants.{Memory};
 
 use crate::lines::Quoted;
 use bstr::BStr;
 use git_index::IndexFileError;
+use git_staged::TreeFault;
 use status_call::index_as_worktree::Error;
 use std::alloc::AllocError;
 use std::fmt;
@@ -21,6 +22,8 @@ pub enum Failure {
     Status(Error),
     /// The status ended early, before any entry that differs.
     Interrupted,
+    /// The files of HEAD's commit can't be read.
+    Head(TreeFault),
     /// The output takes no more.
     Output(OutputError),
     /// Memory ran out.
@@ -35,6 +38,16 @@ impl Failure {
         match error {
             IndexFileError::Memory => Failure::Memory,
             error => Failure::Index(error),
+        }
+    }
+
+    /// Returns the failure for the files of HEAD's commit.
+    pub fn of_head(fault: TreeFault) -> Failure
+        ensures { result ≡ failure_of_head fault }
+    {
+        match fault {
+            TreeFault::Memory => Failure::Memory,
+            fault => Failure::Head(fault),
         }
     }
 
@@ -78,6 +91,7 @@ impl fmt::Display for Failure {
             }
             Failure::Status(error) => write!(f, "{error}"),
             Failure::Interrupted => f.write_str("interrupted"),
+            Failure::Head(fault) => write!(f, "can't read the files of HEAD: {fault}"),
             Failure::Output(error) => write!(f, "{error}"),
             Failure::Memory => f.write_str("out of memory"),
         }

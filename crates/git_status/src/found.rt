@@ -1,4 +1,4 @@
-//! The status of an index: its lines are printed, and the changes that a refresh makes are returned if they are wanted.
+//! The status of an index and what is staged: lines are printed, and the changes that a refresh makes are returned if they are wanted.
 
 ghost use Rattle.std.specs.Prelude.{◌<◌, IfOk, map};
 ghost use Rattle.git_attributes.specs.Views.{file_view};
@@ -13,11 +13,12 @@ use crate::kept::{Kept, changed_bytes, has_all, kept_changes};
 use crate::notes::noted_paths;
 use crate::read::ReadIndex;
 use crate::refresh::Refreshed;
-use crate::status::{Computed, compute, filter_of};
+use crate::status::{Computed, compute_both, filter_of};
 use git_attributes::{
     AttributeFile, AttributeFiles, FolderSearch, attributes_of, find_attribute_files,
 };
 use git_index::IndexFileError;
+use git_staged::FindStaged;
 use status_base::worktree::{Pathspec, SubmoduleStatus, Worktree};
 use status_call::index_as_worktree::ApplyChange;
 use status_index::State;
@@ -41,8 +42,9 @@ impl<
     W: Worktree + Sync,
     S: SubmoduleStatus + Send,
     P: Pathspec + Send,
-    A: AttributeFiles,
-> Asked<'a, W, S, P, A>
+    A: AttributeFiles + Send,
+    H: FindStaged + Sync,
+> Asked<'a, W, S, P, A, H>
 where
     W::File: Send,
     S::Output: Send,
@@ -56,7 +58,7 @@ where
         rt: &R,
         index: &State,
     ) -> Result<Vec<AttributeFile>, AllocError>
-        ensures { IfOk result (λ files. (⟦<Asked<'a, W, S, P, A> as Question>⟧.asking self.now).are_files index.now (map file_view files.items)) }
+        ensures { IfOk result (λ files. (⟦<Asked<'a, W, S, P, A, H> as Question>⟧.asking self.now).are_files index.now (map file_view files.items)) }
     {
         let search = FolderSearch::new(rt.alloc(), self.worktree, index, self.unread);
         let shares = allows_four(self.settings.options.thread_limit);
@@ -68,7 +70,7 @@ where
     /// found, with the changes that a refresh makes if they are wanted.
     ///
     /// # Errors
-    /// Memory runs out before the status, or the file's checksum is wrong; or the status's error, after the lines before it
+    /// Memory runs out before the status, the file's checksum is wrong, or HEAD's files can't be read; or the status's error, after the lines before it
     /// were printed; or the output can't be written. If changes are wanted, memory may also run out after all lines were
     /// printed.
     pub(crate) fn print_index<R: AllocGlobal + Sync + Threads + Wait, O: io::Write>(
@@ -79,7 +81,7 @@ where
         output: &mut O,
     ) -> Result<Found, Failure>
         requires { IsRead self.settings read.now }
-        ensures { IsIndexFound wanted (⟦<Asked<'a, W, S, P, A> as Question>⟧.asking self.entry) read.now.bytes.now read.now.file.state (O.contents output.old) result (O.contents output.new) }
+        ensures { IsIndexFound wanted (⟦<Asked<'a, W, S, P, A, H> as Question>⟧.asking self.entry) read.now.bytes.now read.now.file.state (O.contents output.old) result (O.contents output.new) }
     {
         let alloc = rt.alloc();
         let index = &read.file.state;
@@ -88,13 +90,18 @@ where
         let attributes = attributes_of(alloc, &files)?;
         let filter = filter_of(&attributes, index, &self.settings);
         let attributes = filter.attributes;
-        let Some(computed) = compute(rt, read, filter, self) else {
+        let (staged, computed) = compute_both(rt, read, filter, self);
+        let Some(computed) = computed else {
             return Err(Failure::Index(IndexFileError::Checksum));
+        };
+        let staged = match staged {
+            Ok(staged) => staged,
+            Err(fault) => return Err(Failure::of_head(fault)),
         };
         let Computed { recorder, answer } = computed;
         let records = recorder.records.as_slice();
         let unconverted = noted_paths(alloc, notes, attributes, records);
-        let report = print_answer(alloc, lines, records, unconverted, answer, output)?;
+        let report = print_answer(alloc, lines, &staged, records, unconverted, answer, output)?;
         if !wanted {
             return Ok(Found {
                 report,
@@ -123,7 +130,7 @@ where
         output: &mut O,
     ) -> Result<(Report, Refreshed<'b>), Failure>
         requires { IsRead self.settings read.now }
-        ensures { IsRefresh (⟦<Asked<'a, W, S, P, A> as Question>⟧.asking self.entry) read.old.bytes.now (O.contents output.old) result (O.contents output.new) }
+        ensures { IsRefresh (⟦<Asked<'a, W, S, P, A, H> as Question>⟧.asking self.entry) read.old.bytes.now (O.contents output.old) result (O.contents output.new) }
     {
         let alloc = rt.alloc();
         let Found {

@@ -1,15 +1,17 @@
-//! The command `git dirty`, over the bytes of an index file, any worktree and any writers.
+//! The command `git dirty`, over the bytes of an index file, any commit, any worktree and any writers.
 //!
 //! Read `dirty` first, which has the command, `read`, the index file that it is passed, and `asked`, what it is asked.
-//! `status` computes the status of an index, `found` prints it and returns what was found, and `answer` has its lines and
-//! its report. `refresh` has the command with the new bytes of the index file, and `kept` the changes in them. `lines` has
-//! git's lines and quoted paths; `output` writes them. `paths` is a pathspec of files and folders. `watcher` stops at the
-//! first difference. `remarks` are written besides the lines, with `notes` on files that the status doesn't convert.
-//! `failure` says why the command fails, `fault_place` at which path, and `laws` what a user relies on.
+//! `status` computes the status of an index, `found` prints it and returns what was found, and `answer` has its lines
+//! and its report. `refresh` has the command with the new bytes of the index file, and `kept` the changes in them.
+//! `staged` is the first column alone. `lines` has git's lines and quoted paths, and `columns` both columns of them;
+//! `output` writes them. `paths` is a pathspec of files and folders. `watcher` stops at the first difference. `remarks`
+//! are written besides the lines, with `notes` on files that the status doesn't convert. `failure` says why the command
+//! fails, `fault_place` at which path, and `laws` what a user relies on.
 #![tactic(auto)]
 
 mod answer;
 mod asked;
+mod columns;
 mod dirty;
 mod failure;
 mod fault_place;
@@ -23,6 +25,7 @@ mod paths;
 mod read;
 mod refresh;
 mod remarks;
+mod staged;
 mod status;
 mod watcher;
 
@@ -38,3 +41,4 @@ pub use output::print_failure;
 pub use paths::{Paths, Top};
 pub use read::ReadIndex;
 pub use refresh::{Refreshed, run_refresh};
+pub use staged::print_staged;

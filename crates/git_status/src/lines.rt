@@ -1,5 +1,5 @@
-//! The lines of `git status --porcelain`, with paths in quotes as git prints them. The first column is a space, except
-//! for a conflict, since the index isn't compared with a commit.
+//! The lines of `git status --porcelain`, with paths in quotes as git prints them. Of the letters, those of a status of the
+//! worktree are here: their first column is a space, except for a conflict.
 
 ghost use Rattle.std.specs.Prelude.{◌≡◌, ◌++◌, ◌∷◌, [], OnOk, IfSome, IfNone};
 ghost use Rattle.std.specs.Option.{option_map};
@@ -44,7 +44,7 @@ fn change_letters<T: Drop, U: Drop>(change: &Change<T, U>) -> &'static str
 }
 
 /// Returns the letters of a conflict: what we did, and what they did.
-fn conflict_letters(conflict: Conflict) -> &'static str
+pub(crate) fn conflict_letters(conflict: Conflict) -> &'static str
     ensures { result.now ≡ conflict_letters conflict }
 {
     match conflict {
@@ -79,7 +79,7 @@ pub fn push_line<T: Drop, U: Drop>(
 }
 
 /// Appends the path of a line, and the line's end.
-fn end_line(lines: &mut Vec<u8>, style: LineStyle, path: &[u8]) -> Result<(), AllocError>
+pub(crate) fn end_line(lines: &mut Vec<u8>, style: LineStyle, path: &[u8]) -> Result<(), AllocError>
     ensures { OnOk result (lines.new.items ≡ lines.old.items ++ path_ending style path.now) }
 {
     if style.zero {

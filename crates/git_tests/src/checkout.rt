@@ -1,6 +1,6 @@
 //! A test of `is_dirty` over a repository that it makes: each of its three results comes.
 
-use git_checkout::is_dirty;
+use git_checkout::{Columns, is_dirty};
 use std::alloc::{AllocError, Global};
 use std::test::Fail;
 use std::{env, fs, io, process};
@@ -38,14 +38,29 @@ fn the_result_says_whether_a_file_differs(rt: HostRuntime) -> Result<(), Fail> {
     let alloc = rt.alloc();
     let top = new_repository(&rt)?;
     let mut faults = Vec::new(alloc);
-    // Without an index file there are no entries.
-    assert_eq!(rt; is_dirty(&rt, top.as_str(), &mut faults), Some(false));
+    let all = [Columns::Both, Columns::Staged, Columns::Worktree];
+    // Without an index file there are no entries, and without a commit no files of HEAD.
+    for columns in all.iter() {
+        assert_eq!(rt;
+            is_dirty(&rt, top.as_str(), *columns, &mut faults),
+            Some(false)
+        );
+    }
     let index = format!(in alloc; "{top}/.git/index")?;
     fs::write(&rt, index.as_str(), index_of_a(alloc)?.as_slice())?;
-    assert_eq!(rt; is_dirty(&rt, top.as_str(), &mut faults), Some(true));
+    // The file was added to the index, and isn't in the worktree.
+    for columns in all.iter() {
+        assert_eq!(rt;
+            is_dirty(&rt, top.as_str(), *columns, &mut faults),
+            Some(true)
+        );
+    }
     assert!(rt; faults.is_empty());
     fs::write(&rt, index.as_str(), "no index")?;
-    assert_eq!(rt; is_dirty(&rt, top.as_str(), &mut faults), None);
+    assert_eq!(rt;
+        is_dirty(&rt, top.as_str(), Columns::Both, &mut faults),
+        None
+    );
     assert!(rt; faults.as_slice().starts_with(b"git dirty: "));
     fs::remove_dir_all(&rt, top.as_str())?;
     Ok(())

@@ -1,4 +1,4 @@
-use Rattle.std.proofs.Common.{◌≡◌, List, ℕ, ◌∙◌, ap, map, take}
+use Rattle.std.proofs.Common.{List, ℕ, ◌∙◌, ap, map, take}
 use Rattle.std.proofs.Math.Seq.{take-suc}
 use Rattle.std.proofs.lemmas.List.{take_all}
 use Rattle.bstr.specs.BStr.{bstr_bytes}

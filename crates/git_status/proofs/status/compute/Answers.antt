@@ -1,4 +1,4 @@
-use Rattle.std.proofs.Common.{◌≡◌, ◌∙◌, ap, is_some, false}
+use Rattle.std.proofs.Common.{◌∙◌, ap, is_some}
 use Rattle.git_status.proofs.Runs.{computed_as, none_not_some, some_computed}
 use Rattle.git_status.proofs.status.compute.Goals as goal
 use Rattle.git_status.proofs.status.compute.Goals.{in-Some, in-None}

@@ -1,0 +1,117 @@
+//! The first column alone: how the index differs from HEAD.
+
+use crate::checkout::settings_of;
+use crate::head::{HeadCommit, files_of, head_at};
+use crate::index_file::read_index_file;
+use crate::refused::{PathRefusal, Refused};
+use crate::request::{Request, Selected, selected_by};
+use crate::selection::{has_entry, tops_of};
+use git_repository::Repository;
+use git_status::lines::LineStyle;
+use git_status::{Paths, ReadIndex, print_staged};
+use status_index::{Moment, State};
+use std::alloc::Global;
+use std::io;
+use std::os::unix::fs::FileExt;
+use std::rt::{Env, Files};
+
+/// Writes a line for each selected path at which the index differs from HEAD, in the order of the paths, and returns the exit
+/// status of `git dirty --staged`: 0 if there is none, and otherwise 1. `lstat` is called for no file of the worktree.
+///
+/// # Errors
+/// There is no repository, its index, HEAD or a tree can't be read, a path isn't in its worktree, is a pattern or selects
+/// nothing, or the output takes no more.
+pub(crate) fn run_staged<R: AllocGlobal + Env + Files, O: io::Write>(
+    rt: &R,
+    request: &Request<'_>,
+    output: &mut O,
+) -> Result<u8, Refused>
+where
+    R::File: FileExt,
+{
+    let alloc = rt.alloc();
+    let repository = Repository::discover(rt, request.folder)?;
+    let selected = selected_by(rt, &repository, &request.paths)?;
+    let head = Some(HeadCommit::read(rt, &repository)?);
+    let Some(file) = read_index_file(rt, &repository)? else {
+        let nothing = State::new(alloc, Moment::default());
+        check_either(alloc, &nothing, &head, &selected)?;
+        return print_columns(
+            alloc,
+            request,
+            &repository,
+            &nothing,
+            &head,
+            &selected,
+            output,
+        );
+    };
+    let settings = settings_of(&repository, request, file.timestamp);
+    let read = ReadIndex::of(alloc, &file.bytes, &settings)?;
+    let index = &read.file.state;
+    check_either(alloc, index, &head, &selected)?;
+    print_columns(alloc, request, &repository, index, &head, &selected, output)
+}
+
+/// Writes the lines of an index that isn't compared with a worktree.
+///
+/// # Errors
+/// HEAD's files can't be read, the output takes no more, or out of memory.
+fn print_columns<R: AllocGlobal + Env + Files, O: io::Write>(
+    alloc: Global,
+    request: &Request<'_>,
+    repository: &Repository,
+    index: &State,
+    head: &Option<HeadCommit<'_, R>>,
+    selected: &[Selected<'_>],
+    output: &mut O,
+) -> Result<u8, Refused>
+where
+    R::File: FileExt,
+{
+    let nothing = State::new(alloc, Moment::default());
+    let tops = tops_of(alloc, selected)?;
+    let paths = Paths {
+        tops: &tops,
+        left_out: &nothing,
+    };
+    let style = if request.quiet {
+        None
+    } else {
+        Some(LineStyle {
+            zero: request.zero,
+            quote_all: repository.settings.quote_path,
+        })
+    };
+    let head = head_at(head, paths);
+    let dirty = print_staged(alloc, index, &head, &paths, style, output)?;
+    Ok(u8::from(dirty))
+}
+
+/// Checks that the index or HEAD has a file at each selected path or below it.
+///
+/// # Errors
+/// Nothing is at one, HEAD's files can't be read, or out of memory.
+fn check_either<R: AllocGlobal + Env + Files>(
+    alloc: Global,
+    index: &State,
+    head: &Option<HeadCommit<'_, R>>,
+    selected: &[Selected<'_>],
+) -> Result<(), Refused>
+where
+    R::File: FileExt,
+{
+    let mut files = None;
+    for one in selected {
+        if one.path.is_empty() || has_entry(alloc, index, one)? {
+            continue;
+        }
+        let committed = files_of(alloc, head, files)?;
+        let is_there = has_entry(alloc, &committed, one)?;
+        if !is_there {
+            return Err(Refused::path(alloc, one.word, PathRefusal::Unmatched));
+        }
+        files = Some(committed);
+    }
+    Ok(())
+}
