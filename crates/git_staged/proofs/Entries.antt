@@ -1,26 +1,30 @@
 -- The tree of an index's entries.
-use Rattle.std.proofs.Common.{◌≡◌, ℕ, suc, ◌+◌, ◌==◌, Bool, not, List, [], ◌∷◌, ◌++◌, map, take, refl, sym, ◌∙◌, ap, add-one, ◌||◌}
+use Rattle.std.proofs.Common.{◌≡◌, ℕ, suc, ◌==◌, Bool, not, List, [], ◌∷◌, ◌++◌, map, length, take, refl, sym, ◌∙◌, ap, ◌||◌}
 use Rattle.std.specs.List.{list_any}
-use Rattle.std.proofs.lemmas.List.{map-append}
+use Rattle.std.proofs.lemmas.List.{map-append, take-map, length-map}
 use Rattle.status_index.specs.declared.entry.Entry.{Entry}
 use Rattle.status_index.specs.declared.entry.PathStorage.{PathStorage}
 use Rattle.status_index.specs.Entries.{IndexEntry, entry_at, index_entry, path_in}
 use Rattle.status_index.specs.FlagBits.{stage_of_bits}
-use Rattle.git_staged.specs.Trees.{Items, no_items, and_entry, and_entries, has_conflict}
+use Rattle.git_staged.specs.Trees.{Items, and_entry, and_entries, has_conflict}
 
 -- One more entry comes last.
 pub and_more : (t : Items) (es : List IndexEntry) (e : IndexEntry) → and_entries t (es ++ e ∷ []) ≡ and_entry (and_entries t es) e
 and_more t [] e = refl
 and_more t (x ∷ es) e = and_more (and_entry t x) es e
 
-pub entry_more : (backing : PathStorage) (xs : List Entry) (n : ℕ) (e : Entry) (path : List ℕ) → take (suc n) xs ≡ take n xs ++ e ∷ [] → path ≡ path_in backing e
-    → and_entry (and_entries no_items (map (index_entry backing) (take n xs))) (entry_at path e) ≡ and_entries no_items (map (index_entry backing) (take (n + 1) xs))
-entry_more backing xs n e path taken named =
+-- The next of the stored entries, with its path, is the next of the index's entries.
+pub entry_next : (backing : PathStorage) (xs stored : List Entry) (n : ℕ) (e : Entry) (path : List ℕ) → take (suc n) xs ≡ take n xs ++ e ∷ [] → path ≡ path_in backing e → xs ≡ stored
+    → take (suc n) (map (index_entry backing) stored) ≡ take n (map (index_entry backing) stored) ++ entry_at path e ∷ []
+entry_next backing xs stored n e path taken named same =
     let f : Entry → IndexEntry = index_entry backing in
-    let ys : List IndexEntry = map f (take n xs) in
-    ap (λ (p : List ℕ). and_entry (and_entries no_items ys) (entry_at p e)) named
-    ∙ (sym (and_more no_items ys (f e))
-    ∙ ap (and_entries no_items) (sym (ap (λ (k : ℕ). map f (take k xs)) (add-one n) ∙ (ap (map f) taken ∙ map-append f (take n xs) (e ∷ [])))))
+    let whole : take (suc n) (map f xs) ≡ take n (map f xs) ++ f e ∷ [] =
+        take-map f (suc n) xs ∙ (ap (map f) taken ∙ (map-append f (take n xs) (e ∷ []) ∙ ap (λ (l : List IndexEntry). l ++ f e ∷ []) (sym (take-map f n xs)))) in
+    ap (λ (l : List Entry). take (suc n) (map f l)) (sym same)
+    ∙ (whole ∙ (ap (λ (l : List Entry). take n (map f l) ++ f e ∷ []) same ∙ ap (λ (p : List ℕ). take n (map f stored) ++ entry_at p e ∷ []) (sym named)))
+
+pub as_many : (backing : PathStorage) (xs stored : List Entry) → xs ≡ stored → length (map (index_entry backing) stored) ≡ length xs
+as_many backing xs stored same = length-map stored (index_entry backing) ∙ ap length (sym same)
 
 -- A conflict is seen without the paths.
 pub conflict_seen : (backing : PathStorage) (xs : List Entry) → list_any (λ e. not (stage_of_bits e.flags.0 == 0)) xs ≡ has_conflict (map (index_entry backing) xs)

@@ -1,6 +1,8 @@
 pub mod Puts
+pub mod Runs
 pub mod Stack
 pub mod Entries
 pub mod Changes
 pub mod Folders
 pub mod Ordered
+pub mod FolderRuns

@@ -1,5 +1,6 @@
 pub mod Letters
 pub mod TreeFiles
 pub mod Trees
+pub mod Folders
 pub mod OpenFolders
 pub mod Staged

@@ -1,5 +1,5 @@
 -- The files of a tree (gitformat-index, `git read-tree`), in any store whose objects have the ids by which they are asked for.
-use Rattle.std.specs.Prelude.{◌≡◌, ℕ, zero, suc, ◌/◌, ◌%◌, ◌==◌, Bool, true, false, List, [], ◌∷◌, ◌++◌, map, if◌then◌else◌}
+use Rattle.std.specs.Prelude.{◌≡◌, ◌⊎◌, ℕ, zero, suc, ◌/◌, ◌%◌, ◌==◌, Bool, true, false, List, [], ◌∷◌, ◌++◌, map, if◌then◌else◌}
 use Rattle.std.specs.List.{flat_map, AllByRecursion}
 use Rattle.status_index.specs.declared.id.HashKind.{HashKind}
 use Rattle.status_index.specs.declared.id.ObjectId.{ObjectId}
@@ -61,11 +61,19 @@ pub record HasItems (folder : ObjectId → List ℕ → List IndexEntry → Type
   pub each : AllByRecursion (λ p. IsItem folder path p.item p.entries) parts
   pub entries : es ≡ flat_map (λ p. p.entries) parts
 
--- The files below a folder with this path, whose tree has this id. So many folders may be within each other.
-abbrev pub HasFiles : ℕ → ObjectId → List ℕ → List IndexEntry → Type 0
-HasFiles zero id path es = ⊥
-HasFiles (suc depth) id path es = HasItems (HasFiles depth) id path es
+-- Which entries count as the files below a folder's path, whose tree has this id, although it isn't read.
+abbrev pub Known : Type 1
+Known = ObjectId → List ℕ → List IndexEntry → Type 0
 
--- The entries are the files of the tree of this id.
+-- The files below a folder with this path, whose tree has this id. So many folders may be within each other.
+abbrev pub HasFiles : Known → ℕ → ObjectId → List ℕ → List IndexEntry → Type 0
+HasFiles known zero id path es = ⊥
+HasFiles known (suc depth) id path es = known id path es ⊎ HasItems (HasFiles known depth) id path es
+
+-- No files are known.
+abbrev pub nothing_known : Known
+nothing_known id path es = ⊥
+
+-- The entries are the files of the tree of this id, each of whose folders is read.
 abbrev pub AreFilesOf : ObjectId → List IndexEntry → Type 0
-AreFilesOf id es = (depth : ℕ) × HasFiles depth id [] es
+AreFilesOf id es = (depth : ℕ) × HasFiles nothing_known depth id [] es

@@ -1,11 +1,13 @@
 //! A tree as an index: the entries that `git read-tree` makes of it.
 
-ghost use Rattle.std.specs.Prelude.{◌≡◌, ◌∷◌, ◌++◌, [], List, IfOk, OnOk};
+ghost use Rattle.std.specs.Prelude.{◌≡◌, ◌∷◌, ◌++◌, [], ℕ, List, IfOk, OnOk};
 ghost use Rattle.status_index.specs.BlobId.{id_kind};
-ghost use Rattle.status_index.specs.Entries.{IndexEntry};
+ghost use Rattle.status_index.specs.Entries.{IndexEntry, entry_of_fields};
 ghost use Rattle.status_index.specs.States.{index_of};
+ghost use Rattle.git_staged.specs.Folders.{IsKnown};
 ghost use Rattle.git_staged.specs.TreeFiles.{AreFilesOf, HasFiles, IsFile, IsItem, is_folder, tree_mode};
 
+use crate::known::{KnownFolders, add_copies};
 use bitflags::Flags as _;
 use bstr::BStr;
 use git_objects::{FirstItem, ObjectFault, ObjectKind, ReadObject, TreeItem};
@@ -56,6 +58,15 @@ impl From<AllocError> for TreeFault {
     }
 }
 
+/// How far a tree was read.
+#[derive(Clone, Copy)]
+struct Progress {
+    /// How many items more the tree may have.
+    left: usize,
+    /// The number of the next of the known folders.
+    next: usize,
+}
+
 /// Returns the files of a tree as an index: each with its path, mode and id, and without a stat. Modes that git doesn't write
 /// any more, such as 100664, are those that it writes today.
 ///
@@ -69,14 +80,38 @@ pub fn read_tree<O: ReadObject>(
 ) -> Result<State, TreeFault>
     ensures { IfOk result (λ s. AreFilesOf tree (index_of s)) }
 {
+    let nothing = State::new(alloc, Moment::default());
+    let known = KnownFolders {
+        index: &nothing,
+        folders: &[],
+    };
+    read_beside(alloc, objects, tree, known)
+}
+
+/// Returns the files of a tree as an index. A folder isn't read if its files are known.
+///
+/// # Errors
+/// Those of `read_tree`.
+pub(crate) fn read_beside<O: ReadObject>(
+    alloc: Global,
+    objects: &O,
+    tree: ObjectId,
+    folders: KnownFolders<'_>,
+) -> Result<State, TreeFault>
+    ensures { IfOk result (λ s. (depth : ℕ) × HasFiles (IsKnown folders) depth tree [] (index_of s)) }
+{
     let mut files = State::new(alloc, Moment::default());
     let mut path = Vec::new(alloc);
-    let mut left = MOST_ITEMS;
+    let mut progress = Progress {
+        left: MOST_ITEMS,
+        next: 0,
+    };
     match add_folder(
         objects,
+        folders,
         MOST_FOLDERS,
         tree,
-        &mut left,
+        &mut progress,
         &mut path,
         &mut files,
     ) {
@@ -85,25 +120,28 @@ pub fn read_tree<O: ReadObject>(
     }
 }
 
-/// Adds the files of a folder to others. `left` is how many items more the tree may have, and `path` is that of the folder,
-/// with a slash at its end, or nothing for the top.
+/// Adds the files of a folder to others. `path` is that of the folder, with a slash at its end, or nothing for the top.
 ///
 /// # Errors
 /// Those of `read_tree`. Then the path is another one.
 #[cycle(folders)]
 fn add_folder<O: ReadObject>(
     objects: &O,
+    folders: KnownFolders<'_>,
     depth: usize,
     tree: ObjectId,
-    left: &mut usize,
+    progress: &mut Progress,
     path: &mut Vec<u8>,
     files: &mut State,
 ) -> Result<(), TreeFault>
     ensures path { OnOk result (path.new.items ≡ path.old.items) }
-    ensures files { OnOk result ((es : List IndexEntry) × (index_of files.new ≡ index_of files.old ++ es) × HasFiles depth tree path.old.items es) }
+    ensures files { OnOk result ((es : List IndexEntry) × (index_of files.new ≡ index_of files.old ++ es) × HasFiles (IsKnown folders) depth tree path.old.items es) }
 {
     if depth == 0 {
         return Err(TreeFault::TooDeep);
+    }
+    if let Some(entries) = folders.entries_at(&mut progress.next, path.as_slice(), tree) {
+        return add_copies(files, folders.index.path_backing(), entries);
     }
     let object = match objects.read(tree) {
         Ok(object) => object,
@@ -120,7 +158,8 @@ fn add_folder<O: ReadObject>(
             Ok(None) => return Ok(()),
             Err(fault) => return Err(TreeFault::Object { id: tree, fault }),
         };
-        if let Err(fault) = add_item(objects, depth - 1, first.item, left, path, files) {
+        if let Err(fault) = add_item(objects, folders, depth - 1, first.item, progress, path, files)
+        {
             return Err(fault);
         }
         rest = first.rest;
@@ -134,19 +173,20 @@ fn add_folder<O: ReadObject>(
 #[cycle(folders)]
 fn add_item<O: ReadObject>(
     objects: &O,
+    folders: KnownFolders<'_>,
     depth: usize,
     item: TreeItem<'_>,
-    left: &mut usize,
+    progress: &mut Progress,
     path: &mut Vec<u8>,
     files: &mut State,
 ) -> Result<(), TreeFault>
     ensures path { OnOk result (path.new.items ≡ path.old.items) }
-    ensures files { OnOk result ((es : List IndexEntry) × (index_of files.new ≡ index_of files.old ++ es) × IsItem (HasFiles depth) path.old.items item.entry es) }
+    ensures files { OnOk result ((es : List IndexEntry) × (index_of files.new ≡ index_of files.old ++ es) × IsItem (HasFiles (IsKnown folders) depth) path.old.items item.entry es) }
 {
-    let Some(fewer) = left.checked_sub(1) else {
+    let Some(fewer) = progress.left.checked_sub(1) else {
         return Err(TreeFault::ManyItems);
     };
-    *left = fewer;
+    progress.left = fewer;
     let len = path.len();
     path.extend_from_slice(item.name)?;
     let mode = tree_mode(item.mode);
@@ -156,21 +196,38 @@ fn add_item<O: ReadObject>(
         return added;
     }
     path.extend_from_slice(b"/")?;
-    if let Err(fault) = add_folder(objects, depth, item.id, left, path, files) {
+    if let Err(fault) = add_folder(objects, folders, depth, item.id, progress, path, files) {
         return Err(fault);
     }
     path.truncate(len);
     Ok(())
 }
 
-/// Adds a file to others.
+/// Adds a file without a stat to others.
 ///
 /// # Errors
 /// It isn't after the others in order, or out of memory.
 fn add_file(files: &mut State, path: &[u8], mode: Mode, id: ObjectId) -> Result<(), TreeFault>
     ensures { OnOk result ((e : IndexEntry) × (index_of files.new ≡ index_of files.old ++ e ∷ []) × IsFile path.now mode id e) }
 {
-    match files.push_entry(Stat::default(), id, Flags::empty(), mode, BStr::new(path)) {
+    push_file(files, Stat::default(), id, Flags::empty(), mode, path)
+}
+
+/// Adds an entry to others.
+///
+/// # Errors
+/// It isn't after the others in order, or out of memory.
+pub(crate) fn push_file(
+    files: &mut State,
+    stat: Stat,
+    id: ObjectId,
+    flags: Flags,
+    mode: Mode,
+    path: &[u8],
+) -> Result<(), TreeFault>
+    ensures { OnOk result (index_of files.new ≡ index_of files.old ++ entry_of_fields path.now stat id flags mode ∷ []) }
+{
+    match files.push_entry(stat, id, flags, mode, BStr::new(path)) {
         Ok(()) => Ok(()),
         Err(IndexError::Memory) => Err(TreeFault::Memory),
         Err(_refused) => Err(TreeFault::NotAscending),

@@ -2,8 +2,8 @@
 //!
 //! Read `staged` first, which finds the paths that differ. `files` makes an index of a commit's tree, and `letters`
 //! compares another one with it: it has the letters of git's first column. `write_tree` goes over the entries of an
-//! index, `builder` puts each into the tree, and `item` makes the tree's bytes and its id. `error` is why an index
-//! makes no tree.
+//! index, `builder` puts each into the tree, and `item` makes the tree's bytes and its id. By `known` a folder whose tree
+//! the index makes isn't read. `error` is why an index makes no tree.
 #![tactic(auto)]
 
 mod builder;
@@ -12,6 +12,7 @@ pub mod files;
 #[cfg(test)]
 mod head_tests;
 mod item;
+mod known;
 pub mod letters;
 pub mod staged;
 #[cfg(test)]

@@ -1,25 +1,28 @@
 //! Staged changes: the paths at which an index differs from HEAD's commit.
 
-ghost use Rattle.std.specs.Prelude.{◌≡◌, ◌∷◌, ◌++◌, [], IfOk, OnOk, IsTrue, map};
+ghost use Rattle.std.specs.Prelude.{◌≡◌, ◌∷◌, ◌++◌, [], IfOk, OnOk, Some, map};
 ghost use Rattle.std.specs.List.{filter, list_any};
 ghost use Rattle.std.specs.List.Sorted.{IsPermutation, IsSortedByKey};
 ghost use Rattle.std.specs.Cmp.Lexicographic.{slice_cmp};
 ghost use Rattle.std.specs.Ordering.{nat_cmp};
-ghost use Rattle.bstr.specs.BStr.{bstr_bytes};
+ghost use Rattle.status_index.specs.BlobId.{id_kind};
+ghost use Rattle.status_index.specs.Entries.{index_entry};
 ghost use Rattle.status_index.specs.Mode.{is_submodule};
+ghost use Rattle.status_index.specs.declared.entry.PathStorage.{PathStorage};
 ghost use Rattle.status_index.specs.States.{index_of};
 ghost use Rattle.git_staged.specs.Letters.{change_view};
-ghost use Rattle.git_staged.specs.Staged.{AreHeadFiles, AreStaged, has_submodule, is_selected, staged_view};
-ghost use Rattle.git_staged.specs.Trees.{index_tree_id};
+ghost use Rattle.git_staged.specs.Folders.{IsTreeOf};
+ghost use Rattle.git_staged.specs.Staged.{AreHeadFiles, AreStaged, is_selected, is_submodule_by, staged_view};
 
-use crate::error::TreeError;
-use crate::files::{TreeFault, read_tree};
+use crate::builder::MadeTree;
+use crate::files::{TreeFault, read_beside};
+use crate::known::{KnownFolders, put_in_order};
 use crate::letters::{Change, Letter, changed_entries, deleted_files};
-use crate::write_tree::tree_id;
+use crate::write_tree::tree_of;
 use bstr::BStr;
 use git_objects::ReadObject;
 use status_base::worktree::Pathspec;
-use status_index::{Entry, HashKind, Moment, ObjectId, State};
+use status_index::{Entry, Moment, ObjectId, State};
 use std::alloc::{AllocError, Global};
 
 /// A path at which an index differs from HEAD's commit.
@@ -34,7 +37,8 @@ pub struct Staged {
 /// Finds the staged changes of an index.
 pub trait FindStaged {
     ghost use Rattle.std.specs.Prelude.{IfOk, map};
-    ghost use Rattle.status_index.specs.States.{index_of};
+    ghost use Rattle.status_index.specs.declared.entry.PathStorage.{PathStorage};
+ghost use Rattle.status_index.specs.States.{index_of};
     ghost use Rattle.git_staged.specs.Staged.{MayStage, staged_view};
 
     /// Which paths and letters may be found.
@@ -48,7 +52,7 @@ pub trait FindStaged {
         ensures { IfOk result (λ found. may_stage self.now (index_of index.now) (map staged_view found.items)) };
 }
 
-/// With no commit nothing is staged.
+/// An index that isn't compared with a commit has no staged changes.
 impl<H: FindStaged> FindStaged for Option<H> {
     ghost use Rattle.git_staged.specs.Staged.{may_stage_beside};
 
@@ -67,8 +71,6 @@ impl<H: FindStaged> FindStaged for Option<H> {
 pub struct Head<'a, O, P> {
     /// The objects.
     pub objects: &'a O,
-    /// The kind of the repository's ids.
-    pub kind: HashKind,
     /// The id of the commit's tree. A branch without a commit has none.
     pub tree: Option<ObjectId>,
     /// The paths that are compared.
@@ -78,53 +80,43 @@ pub struct Head<'a, O, P> {
 impl<O: ReadObject, P: Pathspec> FindStaged for Head<'_, O, P> {
     ghost use Rattle.git_staged.specs.Staged.{IsStagedBeside};
 
-    ghost may_stage = { λ head index found. IsStagedBeside head.kind head.tree (P.included head.paths) index found };
+    ghost may_stage = { λ head index found. IsStagedBeside head.tree (P.included head.paths) index found };
 
     fn find_staged(&self, alloc: Global, index: &State) -> Result<Vec<Staged>, TreeFault> {
-        if let Some(tree) = self.tree {
-            if is_tree_of(alloc, self.kind, index, tree)? {
-                return Ok(Vec::new(alloc));
-            }
+        let Some(tree) = self.tree else {
+            let nothing = State::new(alloc, Moment::default());
+            return Ok(staged_changes(alloc, &nothing, index, &self.paths)?);
+        };
+        let made = tree_of(alloc, tree.kind(), index)?;
+        if made.id == tree {
+            return Ok(Vec::new(alloc));
         }
-        let files = files_of(alloc, self.objects, self.tree)?;
+        let files = files_beside(alloc, self.objects, tree, index, made)?;
         Ok(staged_changes(alloc, &files, index, &self.paths)?)
     }
 }
 
-/// Returns whether an index makes the tree of this id. An index with a conflict makes none.
-///
-/// # Errors
-/// Out of memory.
-fn is_tree_of(
-    alloc: Global,
-    kind: HashKind,
-    index: &State,
-    tree: ObjectId,
-) -> Result<bool, AllocError>
-    ensures { IfOk result (λ same. IsTrue same → index_tree_id kind (index_of index.now) ≡ tree) }
-{
-    match tree_id(alloc, kind, index) {
-        Ok(id) => Ok(id == tree),
-        Err(TreeError::Conflict) => Ok(false),
-        Err(TreeError::Memory) => Err(AllocError),
-    }
-}
-
-/// Returns the files of HEAD's tree, as an index.
+/// Returns the files of HEAD's tree, as an index. `made` is the tree of an index, whose folders aren't read if they are as in
+/// HEAD's.
 ///
 /// # Errors
 /// Those of `read_tree`.
-fn files_of<O: ReadObject>(
+fn files_beside<O: ReadObject>(
     alloc: Global,
     objects: &O,
-    tree: Option<ObjectId>,
+    tree: ObjectId,
+    index: &State,
+    made: MadeTree,
 ) -> Result<State, TreeFault>
-    ensures { IfOk result (λ files. AreHeadFiles tree (index_of files)) }
+    ensures { IsTreeOf (id_kind tree) (index_of index.now) made → IfOk result (λ files. AreHeadFiles (Some tree) (index_of files)) }
 {
-    match tree {
-        Some(tree) => read_tree(alloc, objects, tree),
-        None => Ok(State::new(alloc, Moment::default())),
-    }
+    let MadeTree { mut folders, .. } = made;
+    put_in_order(&mut folders)?;
+    let known = KnownFolders {
+        index,
+        folders: folders.as_slice(),
+    };
+    read_beside(alloc, objects, tree, known)
 }
 
 /// Returns the selected paths at which an index differs from HEAD's files, in order.
@@ -144,7 +136,7 @@ fn staged_changes<P: Pathspec>(
     let mut found = Vec::new(alloc);
     push_selected(alloc, &mut found, head, index, paths, &changed)?;
     push_selected(alloc, &mut found, head, index, paths, &deleted)?;
-    put_in_order(&mut found)?;
+    sort_by_path(&mut found)?;
     Ok(found)
 }
 
@@ -174,15 +166,21 @@ fn push_selected<P: Pathspec>(
 fn is_selected<P: Pathspec>(head: &State, index: &State, paths: &P, change: &Change<'_>) -> bool
     ensures { result ≡ is_selected (P.included paths.now) (index_of head.now) (index_of index.now) (change_view change.now) }
 {
-    let is_submodule = has_submodule(index, change.path) || has_submodule(head, change.path);
-    paths.includes(change.path, is_submodule)
+    let path = change.path;
+    let is_submodule = is_submodule_by(head.entries_at(path), index.entries_at(path));
+    paths.includes(path, is_submodule)
 }
 
-/// Returns whether an index has a submodule at a path.
-fn has_submodule(index: &State, path: BStr<'_>) -> bool
-    ensures { result ≡ has_submodule (index_of index.now) (bstr_bytes path.entry) }
+/// Returns whether a path is a submodule's, by the files of the commit and the entries of the index that are there. Git asks
+/// the commit only if the index has none.
+fn is_submodule_by(files: &[Entry], entries: &[Entry]) -> bool
+    ensures { (one other : PathStorage) → result ≡ is_submodule_by (map (index_entry one) files.now) (map (index_entry other) entries.now) }
 {
-    any_submodule(index.entries_at(path))
+    if entries.is_empty() {
+        any_submodule(files)
+    } else {
+        any_submodule(entries)
+    }
 }
 
 /// Returns whether one of these entries is a submodule.
@@ -214,7 +212,7 @@ fn push_staged(
 ///
 /// # Errors
 /// Out of memory.
-fn put_in_order(found: &mut Vec<Staged>) -> Result<(), AllocError>
+fn sort_by_path(found: &mut Vec<Staged>) -> Result<(), AllocError>
     ensures bag { IsPermutation found.old.items found.new.items }
     ensures order { OnOk result (IsSortedByKey (λ s. s.path.items) (slice_cmp nat_cmp) found.new.items) }
 {

@@ -1,14 +1,15 @@
 //! The id of the tree that an index makes.
 
-ghost use Rattle.std.specs.Prelude.{◌≡◌, ◌==◌, ◌↔◌, not, IsTrue, IfOk, OnOk, Err, List};
+ghost use Rattle.std.specs.Prelude.{◌≡◌, ◌==◌, ◌↔◌, ◌+◌, ◌∷◌, ◌++◌, [], suc, take, not, IsTrue, IfOk, OnOk, Err, List};
 ghost use Rattle.std.specs.List.{list_any};
-ghost use Rattle.status_index.specs.Entries.{entry_at};
+ghost use Rattle.status_index.specs.Entries.{IndexEntry, entry_at};
 ghost use Rattle.status_index.specs.FlagBits.{stage_of_bits};
 ghost use Rattle.status_index.specs.States.{index_of};
-ghost use Rattle.git_staged.specs.Trees.{Items, and_entry, has_conflict, index_tree_id, path_of_item};
+ghost use Rattle.git_staged.specs.Trees.{has_conflict, index_tree_id, path_of_item};
+ghost use Rattle.git_staged.specs.Folders.{IsTreeOf};
 ghost use Rattle.git_staged.specs.OpenFolders.{HasNoLastFolder, Makes};
 
-use crate::builder::TreeBuilder;
+use crate::builder::{MadeTree, TreeBuilder};
 use crate::error::TreeError;
 use bitflags::Flags as _;
 use status_index::{Entry, Flags, HashKind, Mode, ObjectId, State};
@@ -30,7 +31,7 @@ pub fn tree_id(alloc: Global, kind: HashKind, index: &State) -> Result<ObjectId,
     if has_conflict(index.entries()) {
         return Err(TreeError::Conflict);
     }
-    Ok(id_of_entries(alloc, kind, index)?)
+    Ok(tree_of(alloc, kind, index)?.id)
 }
 
 /// Returns whether an entry has a stage other than 0.
@@ -40,36 +41,46 @@ fn has_conflict(entries: &[Entry]) -> bool
     entries.iter().any(|entry| entry.stage_raw() != 0)
 }
 
-/// Returns the id of the tree that the entries make.
-fn id_of_entries(alloc: Global, kind: HashKind, index: &State) -> Result<ObjectId, AllocError>
-    ensures { IfOk result (λ id. id ≡ index_tree_id kind (index_of index.now)) }
+/// Returns the tree that the entries of an index make. A side of a conflict counts as any other.
+///
+/// # Errors
+/// Out of memory.
+pub(crate) fn tree_of(
+    alloc: Global,
+    kind: HashKind,
+    index: &State,
+) -> Result<MadeTree, AllocError>
+    ensures { IfOk result (IsTreeOf kind (index_of index.now)) }
 {
     let entries = index.entries();
     let mut tree = TreeBuilder::new(alloc);
-    for entry in entries {
+    for (number, entry) in entries.iter().enumerate() {
         let path = entry.path_in(index.path_backing()).as_bytes();
-        put_entry(&mut tree, kind, entry, path)?;
+        put_entry(&mut tree, kind, number, entry, path)?;
     }
-    tree.finish(kind)
+    tree.finish(kind, entries.len())
 }
 
-/// Puts an entry into the tree, unless it is one of `git add -N`.
+/// Puts the entry of this number into the tree, unless it is one of `git add -N`.
 ///
 /// # Errors
 /// Out of memory. Then the tree can't be used any more.
 fn put_entry(
     tree: &mut TreeBuilder,
     kind: HashKind,
+    number: usize,
     entry: &Entry,
     path: &[u8],
 ) -> Result<(), AllocError>
-    requires { (t : Items) × Makes kind tree.old t HasNoLastFolder }
-    ensures { (t : Items) → Makes kind tree.old t HasNoLastFolder → OnOk result (Makes kind tree.new (and_entry t (entry_at path.now entry.now)) HasNoLastFolder) }
+    requires { (es : List IndexEntry) × Makes kind es number tree.old HasNoLastFolder }
+    ensures { (es : List IndexEntry) → Makes kind es number tree.old HasNoLastFolder → take (suc number) es ≡ take number es ++ entry_at path.now entry.now ∷ []
+        → OnOk result (Makes kind es (number + 1) tree.new HasNoLastFolder) }
 {
     if entry.flags.intersects(Flags::INTENT_TO_ADD) {
         return Ok(());
     }
-    tree.put(kind, path_of_item(entry.mode, path), entry.mode, entry.id)
+    let leaf = path_of_item(entry.mode, path);
+    tree.put(kind, number, leaf, entry.mode, entry.id)
 }
 
 /// Returns the path of an entry's item: without the slash at its end for a folder of a sparse index.

@@ -17,6 +17,6 @@ returns g c =
     let first = rw (c.deref.ensures.value, c.in_ok-changed.ensures, c.new-found.ensures.items) at c.in_ok-push_selected.ensures in
     let both = rw (c.deref-2.ensures.value, c.in_ok-deleted.ensures, first) at c.in_ok-push_selected-2.ensures in
     record {
-      all = subst (λ all. IsPermutation all (map staged_view c.put_in_order.new.found.items)) (both ∙ sym (filter-append selects (changes head index) (deletions index head))) (IsPermutation-map staged_view _ _ c.in_ok-put_in_order.ensures.bag);
-      order = views_sorted c.put_in_order.new.found.items c.in_ok-put_in_order.ensures.order;
+      all = subst (λ all. IsPermutation all (map staged_view c.sort_by_path.new.found.items)) (both ∙ sym (filter-append selects (changes head index) (deletions index head))) (IsPermutation-map staged_view _ _ c.in_ok-sort_by_path.ensures.bag);
+      order = views_sorted c.sort_by_path.new.found.items c.in_ok-sort_by_path.ensures.order;
     }

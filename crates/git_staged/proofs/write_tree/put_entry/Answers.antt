@@ -1,14 +1,19 @@
-use Rattle.std.proofs.Common.{◌≡◌, ℕ, List, Bool, false, cond, OnOk, sym, ap, ◌∙◌, subst}
+use Rattle.std.proofs.Common.{◌≡◌, false, true, refl, sym, ◌∙◌}
+use Rattle.status_index.specs.Entries.{entry_at}
 use Rattle.status_index.specs.FlagBits.{has_bits}
 use Rattle.status_index.specs.declared.entry.TheConstants.Flags.{INTENT_TO_ADD}
-use Rattle.git_staged.specs.Trees.{Items, components, path_of_item, put}
-use Rattle.git_staged.specs.OpenFolders.{HasNoLastFolder, Makes}
+use Rattle.git_staged.proofs.Stack.{passed}
 use Rattle.git_staged.proofs.write_tree.put_entry.Goals as goal
 
+pub put-requires : goal.put-requires
+put-requires c = c.requires
+
+pub returns-then-intersects : goal.returns-then-intersects
+returns-then-intersects c = λ es m next.
+    let intended : has_bits c.args.entry.now.flags.0 INTENT_TO_ADD.0 ≡ true = sym (c.intersects.ensures tt) ∙ c.if-intersects.true in
+    passed c.args.kind es c.args.number c.args.tree.now (entry_at c.args.path.now c.args.entry.now) next intended m
+
 pub returns : goal.returns
-returns c = λ t m.
-    let e = c.args.entry.now in
-    let kept : has_bits e.flags.0 INTENT_TO_ADD.0 ≡ false = sym (c.intersects.ensures tt) ∙ c.if-intersects.false in
-    subst (λ (u : Items). OnOk c.put.result (Makes c.args.kind c.put.new.self u HasNoLastFolder))
-    (ap (λ (path : List ℕ). put (components path) e.mode e.id t) c.path_of_item.ensures ∙ ap (λ (b : Bool). cond b t (put (components (path_of_item e.mode c.args.path.now)) e.mode e.id t)) (sym kept))
-    (c.put.ensures t m)
+returns c = λ es m next.
+    let kept : has_bits c.args.entry.now.flags.0 INTENT_TO_ADD.0 ≡ false = sym (c.intersects.ensures tt) ∙ c.if-intersects.false in
+    c.put.ensures es m (record { entry = entry_at c.args.path.now c.args.entry.now; next = next; staged = kept; path_is = sym c.path_of_item-leaf.ensures; mode_is = refl; id_is = refl })

@@ -14,8 +14,8 @@ returns-then-has_conflict-clause-conflict c =
     let seen = conflict_in (backing_of index) (entries_of index) c.entries.result.now c.has_conflict.result c.entries.ensures.value c.has_conflict.ensures in
     (λ e. sym seen ∙ c.if-has_conflict.true, λ h. refl)
 
-pub returns-in_err-id_of_entries-clause-conflict : goal.returns-in_err-id_of_entries-clause-conflict
-returns-in_err-id_of_entries-clause-conflict c =
+pub returns-in_err-tree_of-clause-conflict : goal.returns-in_err-tree_of-clause-conflict
+returns-in_err-tree_of-clause-conflict c =
     let index = c.args.index.now in
     let seen = conflict_in (backing_of index) (entries_of index) c.entries.result.now c.has_conflict.result c.entries.ensures.value c.has_conflict.ensures in
     let none : has_conflict (index_of index) ≡ false = sym seen ∙ c.if-has_conflict.false in

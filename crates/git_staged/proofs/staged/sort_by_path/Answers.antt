@@ -4,7 +4,7 @@ use Rattle.std.proofs.lemmas.List.Sorted.{answers_always, ranks_by}
 use Rattle.std.proofs.lemmas.Result.{on_ok_weaker}
 use Rattle.std.specs.Cmp.Lexicographic.{slice_cmp}
 use Rattle.std.specs.Ordering.{is_lt, nat_cmp}
-use Rattle.git_staged.proofs.staged.put_in_order.Goals as goal
+use Rattle.git_staged.proofs.staged.sort_by_path.Goals as goal
 
 pub returns-clause-order : goal.returns-clause-order
 returns-clause-order c =
