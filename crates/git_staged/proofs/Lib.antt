@@ -4,3 +4,4 @@ pub mod Entries
 pub mod Changes
 pub mod Folders
 pub mod Ordered
+pub mod Merges
