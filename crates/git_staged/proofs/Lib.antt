@@ -5,4 +5,5 @@ pub mod Entries
 pub mod Changes
 pub mod Folders
 pub mod Ordered
+pub mod Merges
 pub mod FolderRuns

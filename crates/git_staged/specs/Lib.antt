@@ -1,3 +1,4 @@
+pub mod First
 pub mod Letters
 pub mod TreeFiles
 pub mod Trees

@@ -1,18 +1,21 @@
 //! The letters of git's first column: how an index differs from a commit.
 
-ghost use Rattle.std.specs.Prelude.{◌≡◌, not, IfOk, OnOk, map};
-ghost use Rattle.std.specs.List.{list_any};
-ghost use Rattle.status_index.specs.Entries.{entry_at};
+ghost use Rattle.std.specs.Prelude.{◌≡◌, ◌≤◌, not, [], IfOk, MatchOption, OnOk, map};
+ghost use Rattle.std.specs.List.{filter, list_any, prefix_len};
+ghost use Rattle.status_index.specs.Entries.{entry_at, index_entry};
 ghost use Rattle.status_index.specs.FlagBits.{has_bits};
 ghost use Rattle.status_index.specs.declared.entry.TheConstants.Flags.{INTENT_TO_ADD};
-ghost use Rattle.status_index.specs.States.{index_of};
+ghost use Rattle.status_index.specs.States.{backing_of, index_of};
+ghost use Rattle.status_index.specs.Stretch.{is_at, is_below};
 ghost use Rattle.bstr.specs.BStr.{bstr_bytes};
+ghost use Rattle.git_staged.specs.First.{IsFirstOf};
 ghost use Rattle.git_staged.specs.Letters.{and_change, change_view, changes, deletions, has_same_type, is_deleted, letter_of, letter_of_file};
 
 use bitflags::Flags as _;
 use bstr::BStr;
 use status_index::{Entry, Flags, Mode, State};
 use std::alloc::{AllocError, Global};
+use std::cmp::Ordering;
 
 /// How a path differs from the commit.
 #[derive(Clone, Copy, Debug, PartialEq, Eq)]
@@ -50,10 +53,11 @@ pub fn changed_entries<'a>(
     ensures { IfOk result (λ found. map change_view found.items ≡ changes (index_of head.now) (index_of index.now)) }
 {
     let entries = index.entries();
+    let mut next = 0;
     let mut found = Vec::new(alloc);
     for entry in entries {
         let path = entry.path_in(index.path_backing());
-        let letter = letter_of(head, path, entry);
+        let letter = letter_of(head, &mut next, path, entry);
         push_change(&mut found, path, letter)?;
     }
     Ok(found)
@@ -72,10 +76,11 @@ pub fn deleted_files<'a>(
     ensures { IfOk result (λ found. map change_view found.items ≡ deletions (index_of index.now) (index_of head.now)) }
 {
     let files = head.entries();
+    let mut next = 0;
     let mut found = Vec::new(alloc);
     for file in files {
         let path = file.path_in(head.path_backing());
-        let letter = letter_of_file(index, path);
+        let letter = letter_of_file(index, &mut next, path);
         push_change(&mut found, path, letter)?;
     }
     Ok(found)
@@ -95,14 +100,37 @@ fn push_change<'a>(
     Ok(())
 }
 
-/// Returns how an entry differs from the commit's file at its path.
-fn letter_of(head: &State, path: BStr<'_>, entry: &Entry) -> Option<Letter>
-    ensures { result ≡ letter_of (index_of head.now) (entry_at (bstr_bytes path.entry) entry.now) }
+/// Moves `next` on to the first entry of an index whose path isn't less than this one, and returns that entry if it is at
+/// this path. As the paths of an index ascend, those of one are found in another by one walk over both.
+fn first_at<'a>(index: &'a State, next: &mut usize, path: BStr<'_>) -> Option<&'a Entry>
+    requires { next.old ≤ prefix_len (is_below (bstr_bytes path)) (index_of index.now) }
+    ensures next { next.new ≡ prefix_len (is_below (bstr_bytes path.entry)) (index_of index.now) }
+    ensures first { MatchOption result (filter (is_at (bstr_bytes path.entry)) (index_of index.now) ≡ []) (λ e. IsFirstOf (index_entry (backing_of index.now) e.now) (filter (is_at (bstr_bytes path.entry)) (index_of index.now))) }
 {
+    let entries = index.entries();
+    while *next < entries.len() {
+        let entry = &entries[*next];
+        let found = entry.path_in(index.path_backing());
+        match found.as_bytes().cmp(path.as_bytes()) {
+            Ordering::Less => *next += 1,
+            Ordering::Equal => return Some(entry),
+            Ordering::Greater => return None,
+        }
+    }
+    None
+}
+
+/// Returns how an entry differs from the commit's file at its path. `next` is moved on, as by `first_at`.
+fn letter_of(head: &State, next: &mut usize, path: BStr<'_>, entry: &Entry) -> Option<Letter>
+    requires { next.old ≤ prefix_len (is_below (bstr_bytes path)) (index_of head.now) }
+    ensures next { next.new ≡ prefix_len (is_below (bstr_bytes path.entry)) (index_of head.now) }
+    ensures letter { result ≡ letter_of (index_of head.now) (entry_at (bstr_bytes path.entry) entry.now) }
+{
+    let first = first_at(head, next, path);
     if entry.stage_raw() != 0 || entry.flags.intersects(Flags::INTENT_TO_ADD) {
         return None;
     }
-    let Some(file) = head.entries_at(path).first() else {
+    let Some(file) = first else {
         return Some(Letter::Added);
     };
     if !has_same_type(file.mode, entry.mode) {
@@ -121,20 +149,32 @@ fn has_same_type(one: Mode, other: Mode) -> bool
     one.bits() / 0x1000 == other.bits() / 0x1000
 }
 
-/// Returns how the index differs from a file of the commit that is at a path, if it has no entry there.
-fn letter_of_file(index: &State, path: BStr<'_>) -> Option<Letter>
-    ensures { result ≡ letter_of_file (index_of index.now) (bstr_bytes path.entry) }
+/// Returns how the index differs from a file of the commit that is at a path, if it has no entry there. `next` is moved on,
+/// as by `first_at`.
+fn letter_of_file(index: &State, next: &mut usize, path: BStr<'_>) -> Option<Letter>
+    requires { next.old ≤ prefix_len (is_below (bstr_bytes path)) (index_of index.now) }
+    ensures next { next.new ≡ prefix_len (is_below (bstr_bytes path.entry)) (index_of index.now) }
+    ensures letter { result ≡ letter_of_file (index_of index.now) (bstr_bytes path.entry) }
 {
-    if is_deleted(index, path) {
+    if is_deleted(index, next, path) {
         return Some(Letter::Deleted);
     }
     None
 }
 
-/// Returns whether an index has no entry at a path, except one of `git add -N`.
-fn is_deleted(index: &State, path: BStr<'_>) -> bool
-    ensures { result ≡ is_deleted (index_of index.now) (bstr_bytes path.entry) }
+/// Returns whether an index has no entry at a path, except one of `git add -N`. `next` is moved on, as by `first_at`. Only
+/// where the first entry there is one of `git add -N` are the others looked for.
+fn is_deleted(index: &State, next: &mut usize, path: BStr<'_>) -> bool
+    requires { next.old ≤ prefix_len (is_below (bstr_bytes path)) (index_of index.now) }
+    ensures next { next.new ≡ prefix_len (is_below (bstr_bytes path.entry)) (index_of index.now) }
+    ensures deleted { result ≡ is_deleted (index_of index.now) (bstr_bytes path.entry) }
 {
+    let Some(first) = first_at(index, next, path) else {
+        return true;
+    };
+    if !first.flags.intersects(Flags::INTENT_TO_ADD) {
+        return false;
+    }
     !has_staged(index.entries_at(path))
 }
 

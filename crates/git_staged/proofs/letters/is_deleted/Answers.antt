@@ -5,5 +5,5 @@ use Rattle.git_staged.specs.Letters.{is_intended}
 use Rattle.git_staged.proofs.Changes.{staged_seen}
 use Rattle.git_staged.proofs.letters.is_deleted.Goals as goal
 
-pub returns : goal.returns
-returns c = ap not (c.has_staged.ensures ∙ (staged_seen (backing_of c.args.index.now) c.entries_at.result.now ∙ ap (list_any (λ e. not (is_intended e))) c.entries_at.ensures))
+pub returns-clause-deleted : goal.returns-clause-deleted
+returns-clause-deleted c = ap not (c.has_staged.ensures ∙ (staged_seen (backing_of c.args.index.now) c.entries_at.result.now ∙ ap (list_any (λ e. not (is_intended e))) c.entries_at.ensures))
