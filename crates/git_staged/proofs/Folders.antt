@@ -1,5 +1,5 @@
 -- The items of a folder, one after the other.
-use Rattle.std.proofs.Common.{◌≡◌, ◌≢◌, ℕ, suc, ◌-◌, List, [], ◌∷◌, ◌++◌, map, refl, sym, ◌∙◌, ap, subst, append_assoc, arith}
+use Rattle.std.proofs.Common.{◌≡◌, ◌≢◌, ℕ, suc, ◌-◌, List, [], ◌∷◌, ◌++◌, map, refl, sym, ◌∙◌, ap, subst, append_assoc, arith, inl, inr}
 use Rattle.std.specs.List.{flat_map, AllByRecursion}
 use Rattle.std.proofs.lemmas.Grind.{flat_map-append}
 use Rattle.std.proofs.lemmas.List.{append-nil, map-append}
@@ -12,7 +12,7 @@ use Rattle.git_objects.specs.declared.object.ObjectKind.TheVariants.{Tree}
 use Rattle.git_objects.specs.declared.tree.TreeItem.{TreeItem}
 use Rattle.git_objects.specs.Contents.{BeginsWith}
 use Rattle.git_objects.specs.Objects.{id_of_object}
-use Rattle.git_staged.specs.TreeFiles.{AreItems, HasFiles, IsItem, Part}
+use Rattle.git_staged.specs.TreeFiles.{AreItems, HasFiles, IsItem, Known, Part}
 
 abbrev item_of : Part → TreeItem
 item_of p = p.item
@@ -20,7 +20,7 @@ item_of p = p.item
 abbrev entries_of : Part → List IndexEntry
 entries_of p = p.entries
 
-each_push : {X : Type 0} (P : X → Type 0) (xs : List X) (y : X) → AllByRecursion P xs → P y → AllByRecursion P (xs ++ y ∷ [])
+pub each_push : {X : Type 0} (P : X → Type 0) (xs : List X) (y : X) → AllByRecursion P xs → P y → AllByRecursion P (xs ++ y ∷ [])
 each_push P [] y h p = (p, tt)
 each_push P (x ∷ xs) y h p = (h.0, each_push P xs y h.1 p)
 
@@ -49,17 +49,25 @@ more folder hash bytes path es fs rest after item s begins is =
       entries = ap (λ (l : List IndexEntry). l ++ fs) s.entries ∙ (ap (λ (l : List IndexEntry). flat_map entries_of s.parts ++ l) (sym (flat_map-cons entries_of p [] ∙ append-nil fs)) ∙ sym (flat_map-append entries_of s.parts (p ∷ [])));
     }
 
+next_depth : (depth : ℕ) → depth ≢ 0 → suc (depth - 1) ≡ depth
+next_depth depth some = omega (arith, some)
+
 -- All items were passed.
-pub end : (depth : ℕ) (id : ObjectId) (bytes path : List ℕ) (es : List IndexEntry) (rest : List ℕ) → depth ≢ 0 → id_of_object (id_kind id) Tree bytes ≡ id
-    → SoFar (HasFiles (depth - 1)) (id_kind id) bytes path es rest → rest ≡ [] → HasFiles depth id path es
-end depth id bytes path es rest some object s done =
-    let within : HasFiles (suc (depth - 1)) id path es = record {
+pub end : (known : Known) (depth : ℕ) (id : ObjectId) (bytes path : List ℕ) (es : List IndexEntry) (rest : List ℕ) → depth ≢ 0 → id_of_object (id_kind id) Tree bytes ≡ id
+    → SoFar (HasFiles known (depth - 1)) (id_kind id) bytes path es rest → rest ≡ [] → HasFiles known depth id path es
+end known depth id bytes path es rest some object s done =
+    let within : HasFiles known (suc (depth - 1)) id path es = inr (record {
       bytes = bytes;
       object = object;
       parts = s.parts;
       items = subst (AreItems (id_kind id) bytes) (append-nil (map item_of s.parts)) (s.spelled [] done);
       each = s.each;
       entries = s.entries;
-    } in
-    let next : suc (depth - 1) ≡ depth = omega (arith, some) in
-    subst (λ (n : ℕ). HasFiles n id path es) next within
+    }) in
+    subst (λ (n : ℕ). HasFiles known n id path es) (next_depth depth some) within
+
+-- The files of a folder are known.
+pub known_end : (known : Known) (depth : ℕ) (id : ObjectId) (path : List ℕ) (es : List IndexEntry) → depth ≢ 0 → known id path es → HasFiles known depth id path es
+known_end known depth id path es some k =
+    let within : HasFiles known (suc (depth - 1)) id path es = inl k in
+    subst (λ (n : ℕ). HasFiles known n id path es) (next_depth depth some) within

@@ -2,7 +2,6 @@
 use Rattle.std.proofs.Common.{◌≡◌, ◌≤◌, ◌<◌, ℕ, suc, ◌-◌, ◌==◌, Bool, true, false, cond, List, [], ◌∷◌, ◌++◌, length, take, drop, map, get_or, All, refl, sym, ◌∙◌, ap, subst, arith, append_assoc}
 use Rattle.std.specs.List.{AllByRecursion, slice_index}
 use Rattle.std.proofs.lemmas.List.{append-nil, map-append, length-append, take_all, length-take, length-take-le, get_or-append_right}
-use Rattle.std.proofs.lemmas.List.Elements.{All-push, All-cons, All-nil}
 use Rattle.std.proofs.Math.Seq.{take-suc, take-append_seam, drop-append_seam, get_or-append_seam}
 use Rattle.std.proofs.lemmas.Bool.{eqb-true}
 use Rattle.status_index.specs.declared.id.ObjectId.{ObjectId}
@@ -14,6 +13,7 @@ use Rattle.git_staged.specs.Letters.{is_intended}
 use Rattle.git_staged.specs.OpenFolders.{Frame, folder_path, HasName, IsAfterLast, IsStaged, Runs}
 use Rattle.git_staged.specs.Trees.{Items, no_items, and_folder, and_entry, and_entries, put, components, is_slash, path_of_item}
 use Rattle.git_staged.proofs.Entries.{and_more}
+use Rattle.git_staged.proofs.Folders.{each_push}
 use Rattle.git_staged.proofs.Puts.{put_inside, put_new}
 
 -- ---- paths without the slash of a sparse index's folder
@@ -70,7 +70,7 @@ run_more es path first k t e next below r =
       split = next ∙ (ap (λ (l : List IndexEntry). l ++ e ∷ []) r.split ∙ append_assoc r.before r.run (e ∷ []));
       number = r.number;
       begins = (x, more ++ e ∷ [], ap (λ (l : List IndexEntry). l ++ e ∷ []) starts, staged);
-      below = All-push (IsBelow path) r.run e r.below below;
+      below = each_push (IsBelow path) r.run e r.below below;
       makes = ap (and_entries no_items) (map-append one r.run (e ∷ [])) ∙ (and_more no_items (map one r.run) (one e) ∙ ap (λ (u : Items). and_entry u (one e)) r.makes);
     }
 
@@ -82,7 +82,7 @@ run_begins es path k e next within staged below = record {
   split = next;
   number = length-take-le k es within;
   begins = (e, [], refl, staged);
-  below = All-cons (IsBelow path) e [] below (All-nil (IsBelow path));
+  below = (below, tt);
   makes = refl;
 }
 

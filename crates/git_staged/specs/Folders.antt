@@ -1,6 +1,6 @@
 -- The folders of an index, and the ids of the trees that they make.
 use Rattle.std.specs.Prelude.{◌≡◌, ◌≤◌, ◌<◌, ℕ, not, false, List, ◌∷◌, ◌++◌, length, take, drop, map, All}
-use Rattle.std.specs.List.{filter, slice_index_or, slice_range}
+use Rattle.std.specs.List.{filter, slice_index_or, slice_range, AllByRecursion}
 use Rattle.status_index.specs.declared.id.HashKind.{HashKind}
 use Rattle.status_index.specs.declared.id.ObjectId.{ObjectId}
 use Rattle.status_index.specs.declared.entry.Flags.{Flags}
@@ -31,7 +31,7 @@ pub record IsRun (es : List IndexEntry) (path : List ℕ) (first end : ℕ) (ite
   pub split : take end es ≡ before ++ run
   pub number : length before ≡ first
   pub begins : BeginsStaged run
-  pub below : All (IsBelow path) run
+  pub below : AllByRecursion (IsBelow path) run
   pub makes : and_entries no_items (map (inside (length path)) run) ≡ items
 
 -- A folder of these entries, with the id of its tree.

@@ -1,12 +1,9 @@
-use Rattle.std.proofs.Common.{rules, ◌≡◌, ◌++◌, IfSome, OnOk, map, ℕ, ◌+◌, ◌-◌, ◌*◌, ◌<◌, ◌≤◌, length, ◌/◌, ◌%◌, Bool, true, false, nat_eq, nat_lt, List, [], ◌∷◌, slice_index_or, slice_set, bit_and, bit_or, Fits, w8, w32, w64, Bor, MutBor}
-use Rattle.std.specs.List.Sorted.{IsPermutation}
-use Rattle.status_index.specs.declared.entry.Flags.{Flags as GhostFlags}
-use Rattle.status_index.specs.Entries.{index_entry}
-use Rattle.status_index.specs.States.{backing_of, index_of}
-use Rattle.git_staged.specs.Folders.{AreKnown, FrontOf, copies}
-use Rattle.git_staged.specs.TreeFiles.{Known}
+use Rattle.std.proofs.Common.{◌≡◌, ◌∙◌}
+use Rattle.status_index.specs.States.{backing_of}
+use Rattle.git_staged.proofs.FolderRuns.{front_found}
 use Rattle.git_staged.proofs.known.path_of.Goals as goal
 
--- src/known.rt:58:1
 pub returns : goal.returns
-returns c = ?
+returns c =
+    front_found (backing_of c.args.index.now) c.entries.result.now _ c.args.folder.first c.args.folder.path_len c.in_ok-entry.entry.now c.as_bytes-path.result.now c.get-2.result c.in_ok-entry.ensures.lookup.3.0 c.in_ok-entry.ensures.lookup.1
+    (c.as_bytes-path.ensures ∙ (rw c.path_backing.ensures at c.path_in.ensures)) c.entries.ensures.value c.get-2.ensures.lookup.0

@@ -1,11 +1,11 @@
-use Rattle.std.proofs.Common.{rules, ◌≡◌, ◌++◌, IfSome, OnOk, map, ℕ, ◌+◌, ◌-◌, ◌*◌, ◌<◌, ◌≤◌, length, ◌/◌, ◌%◌, Bool, true, false, nat_eq, nat_lt, List, [], ◌∷◌, slice_index_or, slice_set, bit_and, bit_or, Fits, w8, w32, w64, Bor, MutBor}
-use Rattle.std.specs.List.Sorted.{IsPermutation}
-use Rattle.status_index.specs.declared.entry.Flags.{Flags as GhostFlags}
-use Rattle.status_index.specs.Entries.{index_entry}
-use Rattle.status_index.specs.States.{backing_of, index_of}
-use Rattle.git_staged.specs.Folders.{FrontOf, IsKnown, copies}
+use Rattle.std.proofs.Common.{rules, ◌≡◌, sym}
+use Rattle.git_staged.proofs.FolderRuns.{found_run}
 use Rattle.git_staged.proofs.known.KnownFolders.entries_at.Goals as goal
 
--- src/known.rt:26:5
 pub returns : goal.returns
-returns c = ?
+returns c =
+    let folder = c.in_ok-folder.field-0.now in
+    let same : folder.id ≡ c.args.tree = search rules in
+    let at : c.in_ok-path_of.field-0.now ≡ c.args.path.now = search rules in
+    found_run c.args.self folder c.seek.result c.args.tree c.args.path.now c.entries.result.now c.get-2.result c.in_ok-folder.ensures.lookup.3.0 (λ d. sym (c.in_ok-folder.ensures.lookup.3.1 d)) same (rw at at c.in_ok-path_of.ensures) c.entries.ensures.value
+    c.get-2.ensures.lookup.0

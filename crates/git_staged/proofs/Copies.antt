@@ -1,0 +1,74 @@
+-- Entries without their flags make the same tree.
+use Rattle.std.proofs.Common.{◌≡◌, ℕ, ◌==◌, Bool, true, false, not, cond, List, [], ◌∷◌, ◌++◌, length, drop, map, All, refl, sym, ◌∙◌, ap}
+use Rattle.std.specs.List.{filter, AllByRecursion}
+use Rattle.std.proofs.Math.Seq.{drop-append_seam}
+use Rattle.std.proofs.lemmas.List.Elements.{All-nil, All-cons}
+use Rattle.status_index.specs.declared.entry.Flags.{Flags}
+use Rattle.status_index.specs.declared.entry.TheConstants.Flags.{INTENT_TO_ADD}
+use Rattle.status_index.specs.Entries.{IndexEntry}
+use Rattle.status_index.specs.FlagBits.{has_bits}
+use Rattle.git_staged.specs.Folders.{inside, IsBelow, copies, with_flags}
+use Rattle.git_staged.specs.Letters.{is_intended}
+use Rattle.git_staged.specs.Staged.{below}
+use Rattle.git_staged.specs.Trees.{Items, and_entry, and_entries, put, components, path_of_item}
+
+-- One entry of those that are copied.
+copied : (flags : Flags) (e : IndexEntry) (es : List IndexEntry) (b : Bool) → is_intended e ≡ b → copies flags (e ∷ es) ≡ cond b (copies flags es) (with_flags flags e ∷ copies flags es)
+copied flags e es true h = ap (λ (b : Bool). map (with_flags flags) (cond (not b) (e ∷ filter (λ x. not (is_intended x)) es) (filter (λ x. not (is_intended x)) es))) h
+copied flags e es false h = ap (λ (b : Bool). map (with_flags flags) (cond (not b) (e ∷ filter (λ x. not (is_intended x)) es) (filter (λ x. not (is_intended x)) es))) h
+
+-- Without flags an entry isn't one of `git add -N`.
+none_intended : (bits : ℕ) → bits ≡ 0 → has_bits bits INTENT_TO_ADD.0 ≡ false
+none_intended bits h = ap (λ (n : ℕ). has_bits n INTENT_TO_ADD.0) h
+
+entry_put : (t : Items) (e : IndexEntry) (b : Bool) → is_intended e ≡ b → and_entry t e ≡ cond b t (put (components (path_of_item e.mode e.path)) e.mode e.id t)
+entry_put t e b h = ap (λ (c : Bool). cond c t (put (components (path_of_item e.mode e.path)) e.mode e.id t)) h
+
+make_next : (flags : Flags) (e : IndexEntry) (es : List IndexEntry) (t : Items) → flags.0 ≡ 0 → ((u : Items) → and_entries u (copies flags es) ≡ and_entries u es) → (b : Bool) → is_intended e ≡ b
+    → and_entries t (copies flags (e ∷ es)) ≡ and_entries t (e ∷ es)
+make_next flags e es t plain more true h =
+    ap (and_entries t) (copied flags e es true h) ∙ (more t ∙ ap (λ (u : Items). and_entries u es) (sym (entry_put t e true h)))
+make_next flags e es t plain more false h =
+    ap (and_entries t) (copied flags e es false h)
+    ∙ (more (and_entry t (with_flags flags e)) ∙ ap (λ (u : Items). and_entries u es) (entry_put t (with_flags flags e) false (none_intended flags.0 plain) ∙ sym (entry_put t e false h)))
+
+pub copies_make : (flags : Flags) (es : List IndexEntry) (t : Items) → flags.0 ≡ 0 → and_entries t (copies flags es) ≡ and_entries t es
+copies_make flags [] t plain = refl
+copies_make flags (e ∷ es) t plain = make_next flags e es t plain (λ u. copies_make flags es u plain) (is_intended e) refl
+
+inside_next : (n : ℕ) (flags : Flags) (e : IndexEntry) (es : List IndexEntry) → map (inside n) (copies flags es) ≡ copies flags (map (inside n) es) → (b : Bool) → is_intended e ≡ b
+    → map (inside n) (copies flags (e ∷ es)) ≡ copies flags (map (inside n) (e ∷ es))
+inside_next n flags e es more true h = ap (map (inside n)) (copied flags e es true h) ∙ (more ∙ sym (copied flags (inside n e) (map (inside n) es) true h))
+inside_next n flags e es more false h =
+    ap (map (inside n)) (copied flags e es false h) ∙ (ap (λ (l : List IndexEntry). with_flags flags (inside n e) ∷ l) more ∙ sym (copied flags (inside n e) (map (inside n) es) false h))
+
+pub inside_copies : (n : ℕ) (flags : Flags) (es : List IndexEntry) → map (inside n) (copies flags es) ≡ copies flags (map (inside n) es)
+inside_copies n flags [] = refl
+inside_copies n flags (e ∷ es) = inside_next n flags e es (inside_copies n flags es) (is_intended e) refl
+
+-- Entries below a path are those inside of its folder, with the path in front.
+back : List ℕ → List IndexEntry → List IndexEntry
+back path l = map (below path) (map (inside (length path)) l)
+
+placed_next : (path : List ℕ) (flags : Flags) (e : IndexEntry) (es : List IndexEntry) → IsBelow path e → copies flags es ≡ back path (copies flags es) → (b : Bool) → is_intended e ≡ b → copies flags (e ∷ es) ≡ back path (copies flags (e ∷ es))
+placed_next path flags e es here more true h = copied flags e es true h ∙ (more ∙ ap (back path) (sym (copied flags e es true h)))
+placed_next path flags e es here more false h =
+    let (rest, at) = here h in
+    let cut : drop (length path) e.path ≡ rest = ap (drop (length path)) at ∙ drop-append_seam path rest in
+    let whole : e.path ≡ path ++ drop (length path) e.path = at ∙ ap (λ (r : List ℕ). path ++ r) (sym cut) in
+    let same : with_flags flags e ≡ below path (inside (length path) (with_flags flags e)) = ap (λ (p : List ℕ). record (with_flags flags e) { path = p }) whole in
+    copied flags e es false h
+    ∙ (ap (λ (x : IndexEntry). x ∷ copies flags es) same
+    ∙ (ap (λ (l : List IndexEntry). below path (inside (length path) (with_flags flags e)) ∷ l) more ∙ ap (back path) (sym (copied flags e es false h))))
+
+pub placed_back : (path : List ℕ) (flags : Flags) (es : List IndexEntry) → AllByRecursion (IsBelow path) es → copies flags es ≡ map (below path) (map (inside (length path)) (copies flags es))
+placed_back path flags [] h = refl
+placed_back path flags (e ∷ es) h = placed_next path flags e es h.0 (placed_back path flags es h.1) (is_intended e) refl
+
+-- None of them has flags.
+pub all_plain : (flags : Flags) (es : List IndexEntry) → flags.0 ≡ 0 → All (λ e. e.flags.0 ≡ 0) (copies flags es)
+all_plain flags es plain = all_same flags plain (filter (λ e. not (is_intended e)) es)
+  where
+    all_same : (flags : Flags) → flags.0 ≡ 0 → (es : List IndexEntry) → All (λ (e : IndexEntry). e.flags.0 ≡ 0) (map (with_flags flags) es)
+    all_same flags plain [] = All-nil (λ (e : IndexEntry). e.flags.0 ≡ 0)
+    all_same flags plain (e ∷ es) = All-cons (λ (x : IndexEntry). x.flags.0 ≡ 0) (with_flags flags e) (map (with_flags flags) es) plain (all_same flags plain es)
