@@ -7,3 +7,4 @@ pub mod Folders
 pub mod Ordered
 pub mod Merges
 pub mod FolderRuns
+pub mod Unstaged
