@@ -8,3 +8,4 @@ pub mod Ordered
 pub mod Merges
 pub mod Copies
 pub mod FolderRuns
+pub mod Unstaged
