@@ -6,7 +6,7 @@ use git_objects::{ObjectKind, ObjectStore, ReadObject as _, tree_of_commit};
 use git_repository::{Repository, head_of};
 use git_staged::{Head, TreeFault, read_tree};
 use git_status::{Failure, Paths};
-use status_index::{HashKind, Moment, ObjectId, State};
+use status_index::{Moment, ObjectId, State};
 use std::alloc::{AllocError, Global};
 use std::os::unix::fs::FileExt;
 use std::rt::{Env, Files};
@@ -15,7 +15,6 @@ use std::rt::{Env, Files};
 #[derive(Drop)]
 pub(crate) struct HeadCommit<'r, R: Files> {
     objects: ObjectStore<'r, R>,
-    kind: HashKind,
     /// None for a branch without a commit.
     tree: Option<ObjectId>,
 }
@@ -39,11 +38,7 @@ where
             Some(commit) => Some(tree_in(&objects, commit)?),
             None => None,
         };
-        Ok(HeadCommit {
-            objects,
-            kind,
-            tree,
-        })
+        Ok(HeadCommit { objects, tree })
     }
 
     /// Returns the commit's files, as an index. A branch without a commit has none.
@@ -66,7 +61,6 @@ pub(crate) fn head_at<'a, 'r, 'p, R: Files>(
     match head {
         Some(head) => Some(Head {
             objects: &head.objects,
-            kind: head.kind,
             tree: head.tree,
             paths,
         }),

@@ -1,5 +1,5 @@
 -- The changes of entries, one after the other.
-use Rattle.std.proofs.Common.{◌≡◌, ℕ, suc, ◌+◌, Bool, not, List, [], ◌∷◌, ◌++◌, map, take, Option, Some, None, refl, sym, ◌∙◌, ap, add-one, ◌||◌}
+use Rattle.std.proofs.Common.{◌≡◌, ℕ, suc, ◌+◌, ◌==◌, Bool, true, false, not, List, [], ◌∷◌, ◌++◌, map, length, take, Option, Some, None, refl, sym, ◌∙◌, ap, add-one, arith, ◌||◌}
 use Rattle.std.specs.List.{flat_map, list_any}
 use Rattle.std.proofs.lemmas.Grind.{flat_map-append}
 use Rattle.std.proofs.lemmas.List.{append-nil, map-append}
@@ -12,6 +12,8 @@ use Rattle.status_index.specs.FlagBits.{has_bits}
 use Rattle.status_index.specs.Mode.{is_submodule}
 use Rattle.git_staged.specs.declared.letters.Letter.{Letter}
 use Rattle.git_staged.specs.Letters.{and_change, is_intended}
+use Rattle.git_staged.specs.Staged.{is_submodule_by}
+use Rattle.std.proofs.lemmas.Bool.{eqb-true}
 
 -- Whether an entry counts is seen without the paths.
 pub staged_seen : (backing : PathStorage) (xs : List Entry) → list_any (λ e. not (has_bits e.flags.0 INTENT_TO_ADD.0)) xs ≡ list_any (λ e. not (is_intended e)) (map (index_entry backing) xs)
@@ -40,3 +42,15 @@ change_more letter backing xs n e path taken named =
     ∙ (and_after (flat_map each ys) (path_in backing e) (letter (f e))
     ∙ (ap (λ (t : List (List ℕ × Letter)). flat_map each ys ++ t) (sym (flat_map-cons each (f e) [] ∙ append-nil (each (f e))))
     ∙ (sym (flat_map-append each ys (f e ∷ [])) ∙ ap (flat_map each) (sym more))))
+
+-- The index has no entry at a path: the commit's file counts.
+pub submodule_of_commit : (one other : PathStorage) (files entries : List Entry) (r : Bool) → (length entries == 0) ≡ true → r ≡ list_any (λ e. is_submodule e.mode) files
+    → r ≡ is_submodule_by (map (index_entry one) files) (map (index_entry other) entries)
+submodule_of_commit one other files [] r none h = h ∙ submodule_seen one files
+submodule_of_commit one other files (e ∷ es) r none h = absurd (omega (arith, eqb-true (length (e ∷ es)) 0 none))
+
+-- It has one: that counts.
+pub submodule_of_index : (one other : PathStorage) (files entries : List Entry) (r : Bool) → (length entries == 0) ≡ false → r ≡ list_any (λ e. is_submodule e.mode) entries
+    → r ≡ is_submodule_by (map (index_entry one) files) (map (index_entry other) entries)
+submodule_of_index one other files [] r some h = absurd (cc)
+submodule_of_index one other files (e ∷ es) r some h = h ∙ submodule_seen other (e ∷ es)

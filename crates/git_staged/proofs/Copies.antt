@@ -47,7 +47,7 @@ inside_copies n flags [] = refl
 inside_copies n flags (e ∷ es) = inside_next n flags e es (inside_copies n flags es) (is_intended e) refl
 
 -- Entries below a path are those inside of its folder, with the path in front.
-back : List ℕ → List IndexEntry → List IndexEntry
+abbrev back : List ℕ → List IndexEntry → List IndexEntry
 back path l = map (below path) (map (inside (length path)) l)
 
 placed_next : (path : List ℕ) (flags : Flags) (e : IndexEntry) (es : List IndexEntry) → IsBelow path e → copies flags es ≡ back path (copies flags es) → (b : Bool) → is_intended e ≡ b → copies flags (e ∷ es) ≡ back path (copies flags (e ∷ es))

@@ -19,7 +19,7 @@ pub entry_next : (backing : PathStorage) (xs stored : List Entry) (n : ℕ) (e :
 entry_next backing xs stored n e path taken named same =
     let f : Entry → IndexEntry = index_entry backing in
     let whole : take (suc n) (map f xs) ≡ take n (map f xs) ++ f e ∷ [] =
-        take-map f (suc n) xs ∙ (ap (map f) taken ∙ (map-append f (take n xs) (e ∷ []) ∙ ap (λ (l : List IndexEntry). l ++ f e ∷ []) (sym (take-map f n xs)))) in
+    take-map f (suc n) xs ∙ (ap (map f) taken ∙ (map-append f (take n xs) (e ∷ []) ∙ ap (λ (l : List IndexEntry). l ++ f e ∷ []) (sym (take-map f n xs)))) in
     ap (λ (l : List Entry). take (suc n) (map f l)) (sym same)
     ∙ (whole ∙ (ap (λ (l : List Entry). take n (map f l) ++ f e ∷ []) same ∙ ap (λ (p : List ℕ). take n (map f stored) ++ entry_at p e ∷ []) (sym named)))
 

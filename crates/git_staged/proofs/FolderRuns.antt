@@ -16,7 +16,7 @@ use Rattle.status_index.specs.Entries.{IndexEntry, index_entry, path_in}
 use Rattle.status_index.specs.States.{backing_of, entries_of, index_of}
 use Rattle.git_staged.specs.declared.known.KnownFolders.{KnownFolders}
 use Rattle.git_staged.specs.Staged.{IsWritten, below}
-use Rattle.git_staged.specs.TreeFiles.{HasFiles, IsItem, ItemOf, Known, Part, is_folder, tree_mode}
+use Rattle.git_staged.specs.TreeFiles.{HasFiles, IsItem, ItemOf, Known, Part, is_folder, nothing_known, tree_mode}
 use Rattle.git_staged.proofs.Copies.{all_plain, copies_make, inside_copies, placed_back}
 use Rattle.git_staged.specs.declared.builder.Folder.{Folder}
 use Rattle.git_staged.specs.Folders.{FrontOf, IsBelow, IsFolder, IsKnown, IsRun, copies, inside}
@@ -29,7 +29,7 @@ run_part : (es : List IndexEntry) (path : List ℕ) (first end : ℕ) (items : I
 run_part es path first end items r within =
     let len = run_lengths es path first end items r within in
     let back : r.run ≡ drop first (take end es) =
-        sym (drop-append_seam r.before r.run) ∙ (ap (λ (n : ℕ). drop n (r.before ++ r.run)) r.number ∙ ap (drop first) (sym r.split)) in
+    sym (drop-append_seam r.before r.run) ∙ (ap (λ (n : ℕ). drop n (r.before ++ r.run)) r.number ∙ ap (drop first) (sym r.split)) in
     let cut : end ≡ first + (end - first) = omega (arith, len) in
     back ∙ (ap (λ (n : ℕ). drop first (take n es)) cut ∙ drop-take first (end - first) es)
 
@@ -45,7 +45,7 @@ first_path es path first end items r within other front =
     let some : first < end = omega (arith, len, ap length starts) in
     let split : take end es ≡ r.before ++ (e ∷ more) = r.split ∙ ap (λ (l : List IndexEntry). r.before ++ l) starts in
     let is : slice_index_or es first e ≡ e =
-        sym (get_or-take end es first e some) ∙ (ap (λ (l : List IndexEntry). get_or l first e) split ∙ (ap (λ (n : ℕ). get_or (r.before ++ (e ∷ more)) n e) (sym r.number) ∙ get_or-append_seam r.before e more e)) in
+    sym (get_or-take end es first e some) ∙ (ap (λ (l : List IndexEntry). get_or l first e) split ∙ (ap (λ (n : ℕ). get_or (r.before ++ (e ∷ more)) n e) (sym r.number) ∙ get_or-append_seam r.before e more e)) in
     let belows : AllByRecursion (IsBelow path) (e ∷ more) = subst (AllByRecursion (IsBelow path)) starts r.below in
     let (rest, at) = belows.0 staged in
     let (other_rest, other_at) = front.1 e in
@@ -63,11 +63,13 @@ pub front_found : (backing : PathStorage) (xs stored : List Entry) (first len : 
 front_found backing xs stored first len e path r within is named same m =
     let f : Entry → IndexEntry = index_entry backing in
     some_as _ _ _ r m (λ x g.
-        let front : x.now ++ drop len path ≡ path = ap (λ (l : List ℕ). l ++ drop len path) (g.2 ∙ ap (λ (n : ℕ). take n path) (omega (arith))) ∙ take-append-drop len path in
-        (omega (arith, g.3), λ d. (
-          drop len path,
-          ap (λ (y : IndexEntry). y.path) (ap (λ (l : List Entry). slice_index_or (map f l) first d) (sym same) ∙ (get_or_default (map f xs) first d (f e) (omega (arith, within, length-map xs f)) ∙ get_or-map f xs first e ∙ ap f (sym is))) ∙ (sym named ∙ sym front),
-        )))
+    let front : x.now ++ drop len path ≡ path = ap (λ (l : List ℕ). l ++ drop len path) (g.2 ∙ ap (λ (n : ℕ). take n path) (omega (arith))) ∙ take-append-drop len path in (
+      omega (arith, g.3),
+      λ d. (
+        drop len path,
+        ap (λ (y : IndexEntry). y.path) (ap (λ (l : List Entry). slice_index_or (map f l) first d) (sym same) ∙ (get_or_default (map f xs) first d (f e) (omega (arith, within, length-map xs f)) ∙ get_or-map f xs first e ∙ ap f (sym is))) ∙ (sym named ∙ sym front),
+      ),
+    ))
 
 map-slice : (h : Entry → IndexEntry) (ys : List Entry) (a b : ℕ) → map h (slice_range ys a b) ≡ slice_range (map h ys) a b
 map-slice h ys a b = sym (take-map h (b - a) (drop a ys)) ∙ ap (take (b - a)) (sym (drop-map h a ys))
@@ -79,17 +81,17 @@ pub found_run : (k : KnownFolders) (f : Folder) (number : ℕ) (id : ObjectId) (
 found_run k f number id path xs r within listed same front all m =
     let named : Entry → IndexEntry = index_entry (backing_of k.index.now) in
     some_as _ _ _ r m (λ x g. λ flags plain.
-        record {
-          folder = f;
-          number = number;
-          within = within;
-          listed = listed;
-          id_is = same;
-          front = front;
-          flags = flags;
-          plain = plain;
-          are = ap (copies flags) (ap (map named) (g.2 ∙ ap (λ (l : List Entry). slice_range l f.first f.end) all) ∙ map-slice named (entries_of k.index.now) f.first f.end);
-        })
+    record {
+      folder = f;
+      number = number;
+      within = within;
+      listed = listed;
+      id_is = same;
+      front = front;
+      flags = flags;
+      plain = plain;
+      are = ap (copies flags) (ap (map named) (g.2 ∙ ap (λ (l : List Entry). slice_range l f.first f.end) all) ∙ map-slice named (entries_of k.index.now) f.first f.end);
+    })
 
 -- ---- known folders are made of their files
 
@@ -129,6 +131,10 @@ index_written kind id es same makes = record {
     map_same : (es : List IndexEntry) → map (below []) es ≡ es
     map_same [] = refl
     map_same (e ∷ es) = ap (λ (l : List IndexEntry). e ∷ l) (map_same es)
+
+-- No folder is known if there is none.
+pub never_known : (k : KnownFolders) → length k.folders.now ≡ 0 → (id : ObjectId) (path : List ℕ) (files : List IndexEntry) → IsKnown k id path files → nothing_known id path files
+never_known k none id path files known = absurd (omega (arith, known.within, none))
 
 -- Where more is known, a tree has the same files.
 item_more : (F G : ObjectId → List ℕ → List IndexEntry → Type 0) → ((id : ObjectId) (path : List ℕ) (es : List IndexEntry) → F id path es → G id path es) → (b : Bool) (path : List ℕ) (mode : Mode) (id : ObjectId) (es : List IndexEntry)

@@ -98,7 +98,7 @@ pub(crate) fn read_beside<O: ReadObject>(
     tree: ObjectId,
     folders: KnownFolders<'_>,
 ) -> Result<State, TreeFault>
-    ensures { IfOk result (λ s. (depth : ℕ) × HasFiles (IsKnown folders) depth tree [] (index_of s)) }
+    ensures { IfOk result (λ s. (depth : ℕ) × HasFiles (IsKnown folders.entry) depth tree [] (index_of s)) }
 {
     let mut files = State::new(alloc, Moment::default());
     let mut path = Vec::new(alloc);
@@ -135,7 +135,7 @@ fn add_folder<O: ReadObject>(
     files: &mut State,
 ) -> Result<(), TreeFault>
     ensures path { OnOk result (path.new.items ≡ path.old.items) }
-    ensures files { OnOk result ((es : List IndexEntry) × (index_of files.new ≡ index_of files.old ++ es) × HasFiles (IsKnown folders) depth tree path.old.items es) }
+    ensures files { OnOk result ((es : List IndexEntry) × (index_of files.new ≡ index_of files.old ++ es) × HasFiles (IsKnown folders.entry) depth tree path.old.items es) }
 {
     if depth == 0 {
         return Err(TreeFault::TooDeep);
@@ -158,8 +158,15 @@ fn add_folder<O: ReadObject>(
             Ok(None) => return Ok(()),
             Err(fault) => return Err(TreeFault::Object { id: tree, fault }),
         };
-        if let Err(fault) = add_item(objects, folders, depth - 1, first.item, progress, path, files)
-        {
+        if let Err(fault) = add_item(
+            objects,
+            folders,
+            depth - 1,
+            first.item,
+            progress,
+            path,
+            files,
+        ) {
             return Err(fault);
         }
         rest = first.rest;
@@ -181,7 +188,7 @@ fn add_item<O: ReadObject>(
     files: &mut State,
 ) -> Result<(), TreeFault>
     ensures path { OnOk result (path.new.items ≡ path.old.items) }
-    ensures files { OnOk result ((es : List IndexEntry) × (index_of files.new ≡ index_of files.old ++ es) × IsItem (HasFiles (IsKnown folders) depth) path.old.items item.entry es) }
+    ensures files { OnOk result ((es : List IndexEntry) × (index_of files.new ≡ index_of files.old ++ es) × IsItem (HasFiles (IsKnown folders.entry) depth) path.old.items item.entry es) }
 {
     let Some(fewer) = progress.left.checked_sub(1) else {
         return Err(TreeFault::ManyItems);

@@ -58,7 +58,6 @@ fn staged_changes_are_in_order(rt: HostRuntime) -> Result<(), Fail> {
     let tree = add_tree(alloc, &mut objects)?;
     let mut head = Head {
         objects: &objects,
-        kind: HashKind::Sha1,
         tree: Some(tree),
         paths: AllPaths,
     };
@@ -89,5 +88,42 @@ fn staged_changes_are_in_order(rt: HostRuntime) -> Result<(), Fail> {
             Err(TreeFault::Object { .. })
         )
     );
+    Ok(())
+}
+
+#[test]
+fn a_folder_that_is_as_in_the_index_is_not_read(rt: HostRuntime) -> Result<(), Fail> {
+    let alloc = rt.alloc();
+    let same = index(alloc, &[("a", ONE), ("d/b", ONE), ("e/f/g", ONE)])?;
+    // The trees of the folders aren't in the store.
+    let mut outer = Vec::from_slice(alloc, b"100644 a\0")?;
+    outer.extend_from_slice(ONE.as_bytes())?;
+    for (name, file) in [(b"40000 d\0", "b"), (b"40000 e\0", "f/g")] {
+        let folder = tree_id(alloc, HashKind::Sha1, &index(alloc, &[(file, ONE)])?)?;
+        outer.extend_from_slice(name)?;
+        outer.extend_from_slice(folder.as_bytes())?;
+    }
+    let mut objects = MemoryObjects::new(alloc);
+    let tree = objects.add(HashKind::Sha1, ObjectKind::Tree, outer)?;
+    let head = Head {
+        objects: &objects,
+        tree: Some(tree),
+        paths: AllPaths,
+    };
+    assert_eq!(rt; tree_id(alloc, HashKind::Sha1, &same)?, tree);
+    let other = index(
+        alloc,
+        &[("a", TWO), ("d/b", ONE), ("e/f/g", ONE), ("e/h", ONE)],
+    )?;
+    assert!(rt;
+        matches!(
+            head.find_staged(alloc, &other),
+            Err(TreeFault::Object { .. })
+        )
+    );
+    let other = index(alloc, &[("a", TWO), ("d/b", ONE), ("e/f/g", ONE)])?;
+    let found = head.find_staged(alloc, &other).map_err(|_| AllocError)?;
+    let text = text_of(alloc, found.as_slice())?;
+    assert_eq!(rt; text.as_slice(), b"Ma\n".as_slice());
     Ok(())
 }

@@ -69,11 +69,7 @@ fn path_of(index: &State, folder: Folder) -> Option<&[u8]>
 pub(crate) fn put_in_order(folders: &mut Vec<Folder>) -> Result<(), AllocError>
     ensures { IsPermutation folders.old.items folders.new.items }
 {
-    folders.sort_by(|a, b| {
-        a.first
-            .cmp(&b.first)
-            .then(a.path_len.cmp(&b.path_len))
-    })
+    folders.sort_by(|a, b| { a.first.cmp(&b.first).then(a.path_len.cmp(&b.path_len)) })
 }
 
 /// Adds the files that some entries of an index are. An entry of `git add -N` is none.

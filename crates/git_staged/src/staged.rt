@@ -38,7 +38,7 @@ pub struct Staged {
 pub trait FindStaged {
     ghost use Rattle.std.specs.Prelude.{IfOk, map};
     ghost use Rattle.status_index.specs.declared.entry.PathStorage.{PathStorage};
-ghost use Rattle.status_index.specs.States.{index_of};
+    ghost use Rattle.status_index.specs.States.{index_of};
     ghost use Rattle.git_staged.specs.Staged.{MayStage, staged_view};
 
     /// Which paths and letters may be found.

@@ -45,11 +45,7 @@ fn has_conflict(entries: &[Entry]) -> bool
 ///
 /// # Errors
 /// Out of memory.
-pub(crate) fn tree_of(
-    alloc: Global,
-    kind: HashKind,
-    index: &State,
-) -> Result<MadeTree, AllocError>
+pub(crate) fn tree_of(alloc: Global, kind: HashKind, index: &State) -> Result<MadeTree, AllocError>
     ensures { IfOk result (IsTreeOf kind (index_of index.now)) }
 {
     let entries = index.entries();

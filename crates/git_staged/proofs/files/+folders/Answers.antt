@@ -1,11 +1,12 @@
 use Rattle.std.proofs.Common.{◌≡◌, ◌++◌, ◌-◌, [], List, refl, sym, ap, ◌∙◌, append_assoc}
 use Rattle.std.proofs.lemmas.List.{append-nil}
+use Rattle.std.proofs.lemmas.Result.{on_ok_weaker}
 use Rattle.status_index.specs.BlobId.{id_kind}
 use Rattle.status_index.specs.Entries.{IndexEntry}
 use Rattle.status_index.specs.States.{index_of}
 use Rattle.git_staged.specs.Folders.{IsKnown}
 use Rattle.git_staged.specs.TreeFiles.{HasFiles}
-use Rattle.git_staged.proofs.Folders.{start, more, end}
+use Rattle.git_staged.proofs.Folders.{start, more, end, known_end}
 use Rattle.git_staged.proofs.files.+folders.Goals as goal
 
 pub add_folder-items-init : goal.add_folder-items-init
@@ -38,4 +39,10 @@ add_folder-returns-in-Ok-None-clause-files g t c =
     (all.0, all.1, end (IsKnown c.args.folders) c.args.depth c.args.tree c.as_slice-rest.result.now c.args.path.now.items all.0 c.items.rest.now (λ zero. c.if-depth-eq0.false zero) object all.2 done)
 
 pub add_folder-returns-in-Some-clause-files : goal.add_folder-returns-in-Some-clause-files
-add_folder-returns-in-Some-clause-files g t c = ?
+add_folder-returns-in-Some-clause-files g t c =
+    let here = rw c.as_slice.ensures.value at c.in-Some.ensures in
+    on_ok_weaker c.add_copies.result (λ added. (
+      _,
+      added.2,
+      known_end (IsKnown c.args.folders) c.args.depth c.args.tree c.args.path.now.items _ (λ zero. c.if-depth-eq0.false zero) (rw c.path_backing.ensures (here added.0 added.1)),
+    )) c.add_copies.ensures

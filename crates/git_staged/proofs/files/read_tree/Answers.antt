@@ -1,10 +1,8 @@
-use Rattle.std.proofs.Common.{◌≡◌, ◌++◌, List, ap, ◌∙◌}
-use Rattle.status_index.specs.Entries.{IndexEntry}
-use Rattle.status_index.specs.States.{index_of}
+use Rattle.std.proofs.Common.{rules}
+use Rattle.std.proofs.lemmas.Result.{IfOk-weaker}
+use Rattle.git_staged.specs.TreeFiles.{nothing_known}
+use Rattle.git_staged.proofs.FolderRuns.{more_known, never_known}
 use Rattle.git_staged.proofs.files.read_tree.Goals as goal
 
-pub returns-in-Ok : goal.returns-in-Ok
-returns-in-Ok g c =
-    let added = c.in-Ok.ensures.files in
-    let all : index_of c.add_folder.new.files ≡ added.0 = added.1 ∙ ap (λ (l : List IndexEntry). l ++ added.0) c.new-files.ensures.index in
-    (2048, rw all (rw c.new-path.ensures.items at added.2))
+pub returns : goal.returns
+returns g c = IfOk-weaker c.read_beside.result (λ s. λ files. (files.0, more_known _ nothing_known (never_known _ (search rules)) files.0 _ _ _ files.1)) c.read_beside.ensures
