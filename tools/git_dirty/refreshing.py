@@ -247,13 +247,14 @@ class Careful(Refresh):
         """Returns the paths of files that are changed, or that have another stat than in the index."""
         return self.git("diff-files", "--name-only", "-z").split(b"\0")[:-1]
 
-    def assert_left(self, why, lines="", paths=(), **settings):
-        """Asserts that a refresh fails for this reason after these lines, and leaves the index file."""
+    def assert_left(self, why, lines="", paths=(), columns=(), **settings):
+        """Asserts that a refresh fails for this reason after these lines, and leaves the index file. `columns` may have the word
+        for the worktree's column, without which it fails for another reason."""
         old, stat, shown = self.read(), self.stat(), self.shown(**settings)
         wanted = f"git dirty: the index isn't refreshed, since {why}: use git update-index --refresh\n"
-        both = self.both(lines, **settings)
+        both = lines.encode() if columns else self.both(lines, **settings)
         for words, printed in (([], both), (["--stats"], both), (["--worktree"], lines.encode()), (["-q"], b"")):
-            ran = self.refresh(*words, *paths, **settings)
+            ran = self.refresh(*{*columns, *words}, *paths, **settings)
             self.assertEqual((ran.returncode, ran.stdout), (2, printed))
             said = ran.stderr.decode().splitlines(True)
             self.assertEqual([line for line in said if " note: " not in line and " entries, " not in line], [wanted])

@@ -10,6 +10,7 @@ from git_dirty.refreshing import Careful
 from git_dirty.rows import FILE, RowCase, lines_of, rows_of
 from support.programs import room_of_memory
 
+KINDS = "as git|shown|misled|left until git refreshes|left by --worktree|left|stored|time new|time kept"
 ROWS = rows_of(FILE.with_name("refresh_rows.txt").read_text(encoding="utf-8"))
 
 
@@ -29,7 +30,7 @@ class RefreshRows(RowCase, Careful):
         head, result = re.fullmatch(r"(.*?)(?: ->(?: (.*))?)?", self.filled(text, value)).groups()
         head, _, names = head.partition(" with ")
         settings = dict(word.split("=", 1) for word in shlex.split(names.replace("'", "\\'")))
-        kind, lines = re.match("as git|shown|misled|left until git refreshes|left|stored|time new|time kept", head)[0], lines_of(result or "").decode()
+        kind, lines = re.match(KINDS, head)[0], lines_of(result or "").decode()
         words = head[len(kind) :].strip(", ")
         if kind == "as git":
             self.assert_refreshes_as_git(lines)
@@ -37,8 +38,8 @@ class RefreshRows(RowCase, Careful):
             self.assert_seen(words, lines)
         elif kind == "misled":
             self.assert_misled(words, **settings)
-        elif kind == "left":
-            self.assert_left(words, lines, **settings)
+        elif kind in ("left", "left by --worktree"):
+            self.assert_left(words, lines, columns=kind.split()[2:], **settings)
         elif kind.startswith("time"):
             self.assert_time(kind == "time new", *words.split())
         elif kind == "stored":

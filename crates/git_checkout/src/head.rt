@@ -2,7 +2,7 @@
 
 use crate::refused::Refused;
 use crate::replaced::check_objects;
-use git_objects::{ObjectKind, ObjectStore, ReadObject as _, tree_of_commit};
+use git_objects::{ObjectFault, ObjectKind, ObjectStore, ReadObject as _, tree_of_commit};
 use git_repository::{Repository, head_of};
 use git_staged::{Head, TreeFault, read_tree};
 use git_status::{Failure, Paths};
@@ -106,6 +106,7 @@ where
     match objects.read(tree) {
         Ok(root) if root.kind == ObjectKind::Tree => Ok(tree),
         Ok(_) => Err(Refused::Index(Failure::of_head(TreeFault::NoTree { id: tree }))),
+        Err(ObjectFault::Memory) => Err(Refused::Memory),
         Err(fault) => Err(Refused::Index(Failure::of_head(TreeFault::Object { id: tree, fault }))),
     }
 }
