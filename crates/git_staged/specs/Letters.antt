@@ -38,7 +38,7 @@ letter_of head e = if not (stage_of e == 0) || is_intended e then None else lett
 abbrev pub is_deleted : List IndexEntry → List ℕ → Bool
 is_deleted index path = not (list_any (λ e. not (is_intended e)) (filter (is_at path) index))
 
--- The letter of a file of the commit at a path, if the index has no entry there.
+-- The letter of a file of the commit at a path, if the index has no entry there except one of `git add -N`.
 abbrev pub letter_of_file : List IndexEntry → List ℕ → Option Letter
 letter_of_file index path = if is_deleted index path then Some Deleted else None
 
@@ -51,7 +51,7 @@ and_change found path (Some letter) = found ++ (path, letter) ∷ []
 abbrev pub changes : List IndexEntry → List IndexEntry → List (List ℕ × Letter)
 changes head es = flat_map (λ e. and_change [] e.path (letter_of head e)) es
 
--- The files of a commit at whose paths the index has no entry.
+-- The files of a commit at whose paths the index has no entry except one of `git add -N`.
 abbrev pub deletions : List IndexEntry → List IndexEntry → List (List ℕ × Letter)
 deletions index files = flat_map (λ file. and_change [] file.path (letter_of_file index file.path)) files
 

@@ -1,5 +1,7 @@
-//! Why no tree is made.
+//! Why an index makes no tree, and why a tree isn't read.
 
+use git_objects::ObjectFault;
+use status_index::ObjectId;
 use std::alloc::AllocError;
 use thiserror::Error;
 
@@ -22,5 +24,42 @@ impl From<AllocError> for TreeError {
 
     fn from(_error: AllocError) -> TreeError {
         TreeError::Memory
+    }
+}
+
+/// Why a tree isn't read.
+#[derive(Clone, Copy, Debug, PartialEq, Eq, Error)]
+pub enum TreeFault {
+    /// An object isn't read, or a tree's bytes are damaged.
+    #[error("{fault}")]
+    Object {
+        /// The id of the object.
+        id: ObjectId,
+        /// Why it isn't read.
+        fault: ObjectFault,
+    },
+    /// The object of a folder isn't a tree.
+    #[error("the object of a folder isn't a tree")]
+    NoTree {
+        /// The id of the object.
+        id: ObjectId,
+    },
+    /// The items of a tree aren't in order.
+    #[error("the items of a tree aren't in order")]
+    NotAscending,
+    /// The tree has more than 8,388,608 files and folders.
+    #[error("the tree has more than 8,388,608 files and folders")]
+    ManyItems,
+    /// More than 2,048 folders are within each other.
+    #[error("more than 2,048 folders are within each other")]
+    TooDeep,
+    /// An allocation failed.
+    #[error("Out of memory")]
+    Memory,
+}
+
+impl From<AllocError> for TreeFault {
+    fn from(_error: AllocError) -> TreeFault {
+        TreeFault::Memory
     }
 }

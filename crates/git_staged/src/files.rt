@@ -7,56 +7,19 @@ ghost use Rattle.status_index.specs.States.{index_of};
 ghost use Rattle.git_staged.specs.Folders.{IsKnown};
 ghost use Rattle.git_staged.specs.TreeFiles.{AreFilesOf, HasFiles, IsFile, IsItem, is_folder, tree_mode};
 
+use crate::error::TreeFault;
 use crate::known::{KnownFolders, add_copies};
 use bitflags::Flags as _;
 use bstr::BStr;
 use git_objects::{FirstItem, ObjectFault, ObjectKind, ReadObject, TreeItem};
 use status_index::{Flags, IndexError, Mode, Moment, ObjectId, Stat, State};
-use std::alloc::{AllocError, Global};
-use thiserror::Error;
+use std::alloc::Global;
 
 /// How many folders may be within each other, as in newer versions of git (`core.maxTreeDepth`).
 const MOST_FOLDERS: usize = 2048;
 
 /// The most files and folders of a tree. Its folders may be equal, so that few bytes make many.
 const MOST_ITEMS: usize = 1 << 23;
-
-/// Why a tree isn't read.
-#[derive(Clone, Copy, Debug, PartialEq, Eq, Error)]
-pub enum TreeFault {
-    /// An object isn't read, or a tree's bytes are damaged.
-    #[error("{fault}")]
-    Object {
-        /// The id of the object.
-        id: ObjectId,
-        /// Why it isn't read.
-        fault: ObjectFault,
-    },
-    /// The object of a folder isn't a tree.
-    #[error("the object of a folder isn't a tree")]
-    NoTree {
-        /// The id of the object.
-        id: ObjectId,
-    },
-    /// The items of a tree aren't in order.
-    #[error("the items of a tree aren't in order")]
-    NotAscending,
-    /// The tree has more than 8,388,608 files and folders.
-    #[error("the tree has more than 8,388,608 files and folders")]
-    ManyItems,
-    /// More than 2,048 folders are within each other.
-    #[error("more than 2,048 folders are within each other")]
-    TooDeep,
-    /// An allocation failed.
-    #[error("Out of memory")]
-    Memory,
-}
-
-impl From<AllocError> for TreeFault {
-    fn from(_error: AllocError) -> TreeFault {
-        TreeFault::Memory
-    }
-}
 
 /// How far a tree was read.
 #[derive(Clone, Copy)]

@@ -8,7 +8,8 @@ ghost use Rattle.status_index.specs.States.{backing_of, index_of};
 ghost use Rattle.git_staged.specs.Folders.{FrontOf, IsKnown, copies};
 
 use crate::builder::Folder;
-use crate::files::{TreeFault, push_file};
+use crate::error::TreeFault;
+use crate::files::push_file;
 use bitflags::Flags as _;
 use status_index::{Entry, Flags, ObjectId, PathStorage, State};
 use std::alloc::AllocError;

@@ -26,7 +26,7 @@ pub enum Letter {
     Modified,
     /// `T`: the file is of another type: a link became a file, or a file a submodule.
     TypeChanged,
-    /// `D`: the index has no entry at the path.
+    /// `D`: the index has no entry at the path, except one of `git add -N`.
     Deleted,
 }
 
@@ -149,7 +149,8 @@ fn has_same_type(one: Mode, other: Mode) -> bool
     one.bits() / 0x1000 == other.bits() / 0x1000
 }
 
-/// Returns how the index differs from a file of the commit that is at a path, if it has no entry there. `next` is moved on,
+/// Returns how the index differs from a file of the commit that is at a path, if it has no entry there except one of
+/// `git add -N`. `next` is moved on,
 /// as by `first_at`.
 fn letter_of_file(index: &State, next: &mut usize, path: BStr<'_>) -> Option<Letter>
     requires { next.old ≤ prefix_len (is_below (bstr_bytes path)) (index_of index.now) }

@@ -1,9 +1,9 @@
 //! Staged changes: how an index differs from a commit, and the id of the tree that it makes, as `git write-tree` prints it.
 //!
-//! Read `staged` first, which finds the paths that differ. `files` makes an index of a commit's tree, and `letters`
-//! compares another one with it: it has the letters of git's first column. `write_tree` goes over the entries of an
-//! index, `builder` puts each into the tree, and `item` makes the tree's bytes and its id. By `known` a folder whose tree
-//! the index makes isn't read. `error` is why an index makes no tree.
+//! Read `staged` first, which finds the paths that differ. `files` makes an index of a commit's tree, but by `known` a
+//! folder isn't read if the other index makes its tree. `letters` compares the two: it has the letters of git's first
+//! column. `write_tree` goes over the entries of an index, `builder` puts each into the tree, and `item` makes the tree's
+//! bytes and its id. `error` is why an index makes no tree, or a tree isn't read.
 #![tactic(auto)]
 
 mod builder;
@@ -19,8 +19,8 @@ pub mod staged;
 mod tests;
 mod write_tree;
 
-pub use error::TreeError;
-pub use files::{TreeFault, read_tree};
+pub use error::{TreeError, TreeFault};
+pub use files::read_tree;
 pub use letters::{Change, Letter, changed_entries, deleted_files};
 pub use staged::{FindStaged, Head, Staged};
 pub use write_tree::tree_id;

@@ -15,7 +15,8 @@ ghost use Rattle.git_staged.specs.Folders.{IsTreeOf};
 ghost use Rattle.git_staged.specs.Staged.{AreHeadFiles, AreStaged, is_selected, is_submodule_by, staged_view};
 
 use crate::builder::MadeTree;
-use crate::files::{TreeFault, read_beside};
+use crate::error::TreeFault;
+use crate::files::read_beside;
 use crate::known::{KnownFolders, put_in_order};
 use crate::letters::{Change, Letter, changed_entries, deleted_files};
 use crate::write_tree::tree_of;

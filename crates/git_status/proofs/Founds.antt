@@ -21,8 +21,8 @@ use Rattle.status_call.specs.declared.index_as_worktree.types.Outcome.{Outcome}
 use Rattle.status_compare.specs.declared.error.Error.{Error}
 use Rattle.status_index.specs.declared.state.State.{State}
 use Rattle.git_staged.specs.Staged.{MayStage}
-use Rattle.git_staged.specs.declared.files.TreeFault.{TreeFault}
-use Rattle.git_staged.specs.declared.files.TreeFault.TheVariants as trees
+use Rattle.git_staged.specs.declared.error.TreeFault.{TreeFault}
+use Rattle.git_staged.specs.declared.error.TreeFault.TheVariants as trees
 use Rattle.git_staged.specs.declared.letters.Letter.{Letter}
 use Rattle.git_status.specs.Failures.{failure_of_head}
 use Rattle.git_status.specs.Founds.{IsFoundIn, IsFoundRun, IsIndexFound}

@@ -1,8 +1,8 @@
 -- The command's failure for an error. Out of memory is one failure, wherever it happens.
 use Rattle.git_index.specs.declared.fault.IndexFileError.{IndexFileError}
 use Rattle.git_index.specs.declared.fault.IndexFileError.TheVariants as index
-use Rattle.git_staged.specs.declared.files.TreeFault.{TreeFault}
-use Rattle.git_staged.specs.declared.files.TreeFault.TheVariants as trees
+use Rattle.git_staged.specs.declared.error.TreeFault.{TreeFault}
+use Rattle.git_staged.specs.declared.error.TreeFault.TheVariants as trees
 use Rattle.status_compare.specs.declared.error.Error.{Error}
 use Rattle.status_compare.specs.declared.error.Error.TheVariants as errors
 use Rattle.git_status.specs.declared.failure.Failure.{Failure}

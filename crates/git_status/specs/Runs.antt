@@ -10,7 +10,7 @@ use Rattle.git_index.specs.File.{IsFileOf}
 use Rattle.git_index.specs.Refusals.{EndsWithChecksum}
 use Rattle.git_index.specs.declared.fault.IndexFileError.TheVariants.{Checksum}
 use Rattle.git_staged.specs.Staged.{MayStage}
-use Rattle.git_staged.specs.declared.files.TreeFault.{TreeFault}
+use Rattle.git_staged.specs.declared.error.TreeFault.{TreeFault}
 use Rattle.git_staged.specs.declared.letters.Letter.{Letter}
 use Rattle.git_status.specs.Lines.{differs, row_lines, visit_rows, with_staged}
 use Rattle.git_status.specs.declared.lines.LineStyle.{LineStyle}
