@@ -1,14 +1,15 @@
 //! The first column alone: how the index differs from HEAD.
 
 use crate::checkout::settings_of;
-use crate::head::{HeadCommit, files_of, head_at};
+use crate::head::{HeadCommit, head_at};
 use crate::index_file::read_index_file;
-use crate::refused::{PathRefusal, Refused};
+use crate::refused::Refused;
 use crate::request::{Request, Selected, selected_by};
-use crate::selection::{has_entry, tops_of};
+use crate::selection::{check_each, tops_of};
 use git_repository::Repository;
 use git_status::lines::LineStyle;
 use git_status::{Paths, ReadIndex, print_staged};
+use status_base::worktree::MemoryWorktree;
 use status_index::{Moment, State};
 use std::alloc::Global;
 use std::io;
@@ -33,9 +34,11 @@ where
     let repository = Repository::discover(rt, request.folder)?;
     let selected = selected_by(rt, &repository, &request.paths)?;
     let head = Some(HeadCommit::read(rt, &repository)?);
+    // A path that is only in the worktree isn't selected.
+    let nowhere = MemoryWorktree::new(alloc);
     let Some(file) = read_index_file(rt, &repository)? else {
         let nothing = State::new(alloc, Moment::default());
-        check_either(alloc, &nothing, &head, &selected)?;
+        check_each(alloc, &nothing, &nowhere, &head, &selected)?;
         return print_columns(
             alloc,
             request,
@@ -49,7 +52,7 @@ where
     let settings = settings_of(&repository, request, file.timestamp);
     let read = ReadIndex::of(alloc, &file.bytes, &settings)?;
     let index = &read.file.state;
-    check_either(alloc, index, &head, &selected)?;
+    check_each(alloc, index, &nowhere, &head, &selected)?;
     print_columns(alloc, request, &repository, index, &head, &selected, output)
 }
 
@@ -86,32 +89,4 @@ where
     let head = head_at(head, paths);
     let dirty = print_staged(alloc, index, &head, &paths, style, output)?;
     Ok(u8::from(dirty))
-}
-
-/// Checks that the index or HEAD has a file at each selected path or below it.
-///
-/// # Errors
-/// Nothing is at one, HEAD's files can't be read, or out of memory.
-fn check_either<R: AllocGlobal + Env + Files>(
-    alloc: Global,
-    index: &State,
-    head: &Option<HeadCommit<'_, R>>,
-    selected: &[Selected<'_>],
-) -> Result<(), Refused>
-where
-    R::File: FileExt,
-{
-    let mut files = None;
-    for one in selected {
-        if one.path.is_empty() || has_entry(alloc, index, one)? {
-            continue;
-        }
-        let committed = files_of(alloc, head, files)?;
-        let is_there = has_entry(alloc, &committed, one)?;
-        if !is_there {
-            return Err(Refused::path(alloc, one.word, PathRefusal::Unmatched));
-        }
-        files = Some(committed);
-    }
-    Ok(())
 }

@@ -1,0 +1,5 @@
+pub mod Spelled
+pub mod Leaves
+pub mod Parts
+pub mod Readable
+pub mod Agreement
