@@ -85,7 +85,7 @@ take_some (suc k) e rest some =
     let same : k ≡ suc k - 1 = omega arith in
     ap (λ (m : ℕ). e ∷ take m rest) same
 
--- Where a walk ends, it has the first entry at the path, or there is none.
+-- At its end a walk has the first entry at the path, or there is none.
 module _ (es : List IndexEntry) (p : List ℕ) (h : IsIndex es) (n : ℕ) (ends : n ≡ prefix_len (is_below p) es) where
   ordered : n ≤ prefix_len (is_up_to p) es
   ordered = omega (arith, places_ordered es p h)
@@ -155,7 +155,7 @@ module _ (b : PathStorage) (entries stored : List Entry) (n : ℕ) (d : Entry) (
       let e : IndexEntry = index_entry b (slice_index_or entries n d) in
       subst (λ (q : List ℕ). next ≤ prefix_len (is_below q) other) (path_here e) (before n e (omega arith) listed)
 
-  -- Where it ends is before the entries to come.
+  -- It ends before the entries to come.
   pub next_more : (other : List IndexEntry) (next : ℕ) → IsIndex (index_entries b stored) → next ≡ prefix_len (is_below path) other → IsBefore other next (index_entries b stored) (n + 1)
   next_more other next h ends k e le within =
       let es : List IndexEntry = index_entries b stored in

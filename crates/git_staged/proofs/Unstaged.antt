@@ -100,7 +100,7 @@ letter_if true true letter h = refl
 letter_if true false letter h = h refl refl
 letter_if false intended letter h = refl
 
--- What is before an entry of stage 0 has another path.
+-- The entries before one of stage 0 have other paths.
 apart_at : (o : Ordering) (n m : ℕ) → m ≡ 0 → ordering_then o (nat_cmp n m) ≡ Less → is_eq o ≡ false
 apart_at Less n m zero_stage less = refl
 apart_at Equal n m zero_stage less = absurd (grind (arith, nat_tests))

@@ -57,6 +57,6 @@ abbrev pub AreHeadFiles : Option ObjectId → List IndexEntry → Type 0
 AreHeadFiles None files = files ≡ []
 AreHeadFiles (Some tree) files = (depth : ℕ) × HasFiles IsWritten depth tree [] files
 
--- What is staged beside HEAD's tree: what differs from its files.
+-- The staged changes of an index that is compared with HEAD's tree: how it differs from the tree's files.
 abbrev pub IsStagedBeside : Option ObjectId → (List ℕ → Bool → Bool) → List IndexEntry → List (List ℕ × Letter) → Type 0
 IsStagedBeside tree included index found = (files : List IndexEntry) × AreHeadFiles tree files × AreStaged included files index found

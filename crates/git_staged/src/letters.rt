@@ -163,8 +163,8 @@ fn letter_of_file(index: &State, next: &mut usize, path: BStr<'_>) -> Option<Let
     None
 }
 
-/// Returns whether an index has no entry at a path, except one of `git add -N`. `next` is moved on, as by `first_at`. Only
-/// where the first entry there is one of `git add -N` are the others looked for.
+/// Returns whether an index has no entry at a path, except one of `git add -N`. `next` is moved on, as by `first_at`. The
+/// others at the path are searched only if the first is one of `git add -N`.
 fn is_deleted(index: &State, next: &mut usize, path: BStr<'_>) -> bool
     requires { next.old ≤ prefix_len (is_below (bstr_bytes path)) (index_of index.now) }
     ensures next { next.new ≡ prefix_len (is_below (bstr_bytes path.entry)) (index_of index.now) }

@@ -29,7 +29,7 @@ use Rattle.git_tree_laws.proofs.Spelled.{digest_kind, heads, mode_read, spelled}
 abbrev Into : Known → Known → Type 0
 Into F G = (id : ObjectId) (path : List ℕ) (es : List IndexEntry) → F id path es → G id path es
 
--- What was found of the second kind was of the first.
+-- A content that was found of the second kind was of the first.
 abbrev Keeps : (F G : Known) → ContentOf F → ContentOf G → Into F G → Type 0
 Keeps F G of other h = (id : ObjectId) (path : List ℕ) (es : List IndexEntry) (x : F id path es) (content : List ℕ) → other id path es (h id path es x) content → of id path es x content
 

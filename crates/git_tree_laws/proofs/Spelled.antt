@@ -2,7 +2,7 @@
 use Rattle.std.proofs.Common.{◌≡◌, ◌≢◌, ℕ, Bool, true, false, eqb, List, [], ◌∷◌, ◌++◌, length, take, drop, All, inl, inr, refl, sym, ◌∙◌, ap, arith, append_assoc}
 use Rattle.std.proofs.lemmas.Bool.Decides.{eqb_tells}
 use Rattle.std.proofs.lemmas.List.{length-append}
-use Rattle.std.proofs.lemmas.List.Elements.{All-cons, All-from_recursion, All-head, All-nil, All-tail}
+use Rattle.std.proofs.lemmas.List.Elements.{All-cons, All-head, All-nil, All-tail}
 use Rattle.std.proofs.Math.Seq.{take-append_seam, drop-append_seam}
 use Rattle.sha1.specs.Sha1.{sha1, digest_bytes}
 use Rattle.sha2.proofs.Facts256.{length-sha256}
@@ -17,7 +17,7 @@ use Rattle.git_objects.specs.declared.tree.TreeItem.{TreeItem}
 use Rattle.git_objects.specs.Contents.{BeginsWith, IsOctal, octal_after}
 use Rattle.git_objects.specs.Splits.{Lacks, is_byte}
 use Rattle.git_staged.specs.TreeFiles.{tree_mode}
-use Rattle.git_staged.specs.Trees.{item_bytes, octal_mode}
+use Rattle.git_staged.specs.Trees.{octal_mode}
 
 -- ---- the parts at the first byte of a value
 
@@ -49,13 +49,6 @@ no_space [] h = All-nil (λ b. is_byte 32 b ≡ false)
 no_space (d ∷ digits) h =
     let first : IsOctal d = All-head IsOctal d digits h in
     All-cons (λ b. is_byte 32 b ≡ false) d digits (is_other d 32 (λ same. absurd (omega (arith, first.0, same)))) (no_space digits (All-tail IsOctal d digits h))
-
-mode_no_space : (mode : Mode) → Lacks 32 (octal_mode mode)
-mode_no_space Dir = All-from_recursion (λ b. is_byte 32 b ≡ false) (octal_mode Dir) (refl, (refl, (refl, (refl, (refl, tt)))))
-mode_no_space File = All-from_recursion (λ b. is_byte 32 b ≡ false) (octal_mode File) (refl, (refl, (refl, (refl, (refl, (refl, tt))))))
-mode_no_space FileExecutable = All-from_recursion (λ b. is_byte 32 b ≡ false) (octal_mode FileExecutable) (refl, (refl, (refl, (refl, (refl, (refl, tt))))))
-mode_no_space Symlink = All-from_recursion (λ b. is_byte 32 b ≡ false) (octal_mode Symlink) (refl, (refl, (refl, (refl, (refl, (refl, tt))))))
-mode_no_space Commit = All-from_recursion (λ b. is_byte 32 b ≡ false) (octal_mode Commit) (refl, (refl, (refl, (refl, (refl, (refl, tt))))))
 
 pub mode_read : (mode : Mode) → tree_mode (octal_after 0 (octal_mode mode)) ≡ mode
 mode_read Dir = refl
@@ -93,33 +86,8 @@ same_ids a b r rest kind len e = (
   sym (drop-append_seam (id_bytes a) r) ∙ (ap (λ (n : ℕ). drop n (id_bytes a ++ r)) len ∙ (ap (drop (length (id_bytes b))) e ∙ drop-append_seam (id_bytes b) rest)),
 )
 
--- ---- an item
-
--- The item that bytes begin with, if they begin with those of an item.
-pub record IsItemAt (mode : Mode) (name : List ℕ) (id : ObjectId) (rest : List ℕ) (kind : HashKind) (item : TreeItem) (r : List ℕ) : Type 0 where
-  pub mode_is : tree_mode item.mode ≡ mode
-  pub name_is : item.name.now ≡ name
-  pub left : id_bytes item.id ++ r ≡ id_bytes id ++ rest
-  pub kind_is : id_kind item.id ≡ kind
-
-pub one_item : (kind : HashKind) (mode : Mode) (name : List ℕ) (id : ObjectId) (rest : List ℕ) (item : TreeItem) (r : List ℕ) → Lacks 0 name → BeginsWith kind (item_bytes mode name id ++ rest) item r
-    → IsItemAt mode name id rest kind item r
-one_item kind mode name id rest item r plain b =
-    let whole : octal_mode mode ++ 32 ∷ (name ++ 0 ∷ (id_bytes id ++ rest)) ≡ b.digits ++ 32 ∷ (item.name.now ++ 0 ∷ (id_bytes item.id ++ r)) = sym (spelled (octal_mode mode) name (id_bytes id) rest) ∙ b.bytes in
-    let first = one_split 32 (octal_mode mode) b.digits (name ++ 0 ∷ (id_bytes id ++ rest)) (item.name.now ++ 0 ∷ (id_bytes item.id ++ r)) (mode_no_space mode) (no_space b.digits b.octal) whole in
-    let second = one_split 0 name item.name.now (id_bytes id ++ rest) (id_bytes item.id ++ r) plain b.name first.1 in
-    record {
-      mode_is = ap tree_mode (sym b.mode ∙ ap (octal_after 0) (sym first.0)) ∙ mode_read mode;
-      name_is = sym second.0;
-      left = sym second.1;
-      kind_is = b.kind;
-    }
+-- ---- items
 
 -- No item is left of no bytes.
 pub no_item : (kind : HashKind) (item : TreeItem) (r : List ℕ) → BeginsWith kind [] item r → ⊥
 no_item kind item r b = absurd (omega (arith, ap length b.bytes, length-append b.digits (32 ∷ (item.name.now ++ 0 ∷ (id_bytes item.id ++ r)))))
-
--- An item has bytes.
-pub some_bytes : (mode : Mode) (name : List ℕ) (id : ObjectId) (rest : List ℕ) → item_bytes mode name id ++ rest ≢ []
-some_bytes mode name id rest e =
-    absurd (omega (arith, ap length (sym (spelled (octal_mode mode) name (id_bytes id) rest) ∙ e), length-append (octal_mode mode) (32 ∷ (name ++ 0 ∷ (id_bytes id ++ rest)))))

@@ -13,7 +13,7 @@ use Rattle.git_staged.specs.Staged.{AreHeadFiles, IsWritten}
 use Rattle.git_staged.specs.TreeFiles.{AreFilesOf, HasFiles, IsItem, ItemOf, Known, Part, is_folder, nothing_known, tree_mode}
 use Rattle.git_staged.specs.Trees.{Items, no_items, and_leaf, and_folder, and_entries, tree_bytes, tree_object_id}
 
--- What a tree has of a file: its path, its mode and its id.
+-- A tree has these of a file: its path, its mode and its id.
 abbrev pub file_of : IndexEntry → List ℕ × Mode × ObjectId
 file_of e = (e.path, e.mode, e.id)
 

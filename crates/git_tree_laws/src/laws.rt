@@ -17,8 +17,8 @@ pub fn made_folders_are_read()
     ensures { (id : ObjectId) (es fs : List IndexEntry) → HeadIsReadLaw id es fs }
 {}
 
-/// The entries that `git write-tree` makes a tree of are the files that reading the tree's objects gives. Or else a tree that
-/// was read differs from one that was made, and both have the same id.
+/// The entries that `git write-tree` makes a tree of are the files that are read of the tree's objects. Or else a tree that was
+/// read differs from one that was made, and both have the same id.
 pub fn written_tree_is_read()
     ensures { (id : ObjectId) (es fs : List IndexEntry) → WrittenIsReadLaw id es fs }
 {}
