@@ -12,3 +12,4 @@ pub mod Refreshing
 pub mod Runs
 pub mod Selected
 pub mod Shown
+pub mod Unmerged

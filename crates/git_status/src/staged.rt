@@ -2,10 +2,13 @@
 
 ghost use Rattle.std.specs.Prelude.{◌≡◌, ◌==◌, ◌||◌, not, length, IfOk, OnOk, map};
 ghost use Rattle.std.specs.Io.KnownBytes.{Appends};
+ghost use Rattle.std.specs.List.{list_any};
+ghost use Rattle.bstr.specs.BStr.{bstr_bytes};
+ghost use Rattle.status_index.specs.Mode.{is_submodule};
 ghost use Rattle.status_index.specs.States.{index_of};
 ghost use Rattle.git_staged.specs.Staged.{staged_view};
 ghost use Rattle.git_status.specs.Lines.{row_lines, with_staged};
-ghost use Rattle.git_status.specs.StagedRuns.{IsStagedRun, staged_text, unmerged_row};
+ghost use Rattle.git_status.specs.StagedRuns.{IsStagedRun, staged_text, unmerged_row, unmerged_rows};
 
 use crate::columns::{push_beside, push_each};
 use crate::failure::Failure;
@@ -14,7 +17,7 @@ use bstr::BStr;
 use git_staged::{FindStaged, Staged};
 use status_base::worktree::Pathspec;
 use status_call::index_as_worktree::Conflict;
-use status_index::State;
+use status_index::{Entry, State};
 use std::alloc::{AllocError, Global};
 use std::io;
 use text_output::print_all;
@@ -39,7 +42,7 @@ pub fn print_staged<H: FindStaged, P: Pathspec, O: io::Write>(
     lines: Option<LineStyle>,
     output: &mut O,
 ) -> Result<bool, Failure>
-    ensures { IsStagedRun (H.may_stage head.now) (index_of index.now) lines (O.contents output.old) result (O.contents output.new) }
+    ensures { IsStagedRun (H.may_stage head.now) (P.included paths.now) (index_of index.now) lines (O.contents output.old) result (O.contents output.new) }
 {
     let staged = match head.find_staged(alloc, index) {
         Ok(staged) => staged,
@@ -99,7 +102,7 @@ fn text_of(
     Ok(text)
 }
 
-/// Returns the selected paths of an index that are in conflict, in order.
+/// Returns the paths of an index that are in conflict and of which a side is selected, in order.
 ///
 /// # Errors
 /// Out of memory.
@@ -107,21 +110,38 @@ fn unmerged_in<'index, P: Pathspec>(
     alloc: Global,
     index: &'index State,
     paths: &P,
-) -> Result<Vec<Unmerged<'index>>, AllocError> {
+) -> Result<Vec<Unmerged<'index>>, AllocError>
+    ensures { IfOk result (λ found. map unmerged_row found.items ≡ unmerged_rows (P.included paths.now) (index_of index.now)) }
+{
     let (entries, backing) = (index.entries(), index.path_backing());
     let mut found = Vec::new(alloc);
-    let mut last = BStr::new(b"");
-    for (at, entry) in entries.iter().enumerate() {
-        if entry.stage_raw() == 0 {
+    let mut at = 0;
+    while at < entries.len() {
+        if entries[at].stage_raw() == 0 {
+            at += 1;
             continue;
         }
-        let path = entry.path_in(backing);
-        if path != last && paths.includes(path, entry.mode.is_submodule()) {
-            if let Some((conflict, _, _)) = Conflict::try_from_entry(entries, backing, at, path) {
-                found.push(Unmerged { path, conflict })?;
-            }
+        let path = entries[at].path_in(backing);
+        let Some((conflict, more, _)) = Conflict::try_from_entry(entries, backing, at, path) else {
+            unreachable!();
+        };
+        let end = at + more + 1;
+        if is_selected(paths, path, &entries[at..end]) {
+            found.push(Unmerged { path, conflict })?;
         }
-        last = path;
+        at = end;
     }
     Ok(found)
+}
+
+/// Returns whether a side of the conflict at a path is selected.
+fn is_selected<P: Pathspec>(paths: &P, path: BStr<'_>, sides: &[Entry]) -> bool
+    ensures { result ≡ list_any (λ e. P.included paths.now (bstr_bytes path.entry) (is_submodule e.mode)) sides.now }
+{
+    for side in sides {
+        if paths.includes(path, side.mode.is_submodule()) {
+            return true;
+        }
+    }
+    false
 }
