@@ -124,6 +124,7 @@ class Spoilt(unittest.TestCase):
     SCRIPTS = [(partial(draw_histories.run, events=200), STATUS_PROGRAM, [2])]
     SCRIPTS += [(partial(compare_dirty.compared, kind=AttributeDrawing), GIT_DIRTY, range(2))]
     SCRIPTS += [(mutate_index.run, GIT_DIRTY, range(20)), (mutate_settings.run, GIT_DIRTY, range(20))]
+    SCRIPTS += [(mutate_objects.run, GIT_DIRTY, [31, 46])]
 
     def test_each_spoilt_end_is_noticed(self):
         for number, (run, program, seeds) in enumerate(self.SCRIPTS):
