@@ -1,28 +1,21 @@
-"""`git dirty --staged` compared with git, over drawn repositories and damaged objects:
+"""`git dirty --staged` compared with git, over drawn repositories:
 
     python3 tools/run_tests.py git_dirty.test_staged
 """
 
-import glob
 import os
-import random
-import re
 import unittest.mock
-import zlib
 
 from git_dirty.case import Dirty
 from stress.draw_repositories import Drawing, entries_of
-from stress.seeds import mutate_bytes
 from support.programs import room_of_memory
-from support.repositories import COLUMNS, CONFLICTS, STATUS_OF_HEADS, as_dirty, read, write
+from support.repositories import COLUMNS, CONFLICTS, read, write
 
-# How many repositories are drawn, how often an object is damaged, and how many bytes a run may take then.
-DRAWN, DAMAGED, MEMORY = 60, 400, 200 << 20
+# How many repositories are drawn.
+DRAWN = 60
 COMMANDS = [["repack", "-adfq"], ["gc", "-q"], ["pack-refs", "--all"], ["update-ref", "--no-deref", "HEAD", "HEAD"]]
 # Commands for a clone that shares the objects, and for a linked worktree. These have no index file.
 OTHERS = [["clone", "-qns", "."], ["worktree", "add", "-q", "--detach", "--no-checkout"]]
-# Git reads neither such a pack nor such an object. The program does, since the object has its id.
-UNREAD = rb"error: (non-monotonic index|wrong index|packfile|garbage at end of loose object) "
 
 
 @unittest.mock.patch.dict(os.environ, GIT_AUTHOR_DATE="1600000000 +0000", GIT_COMMITTER_DATE="1600000000 +0000")
@@ -75,35 +68,3 @@ class Staged(Dirty):
                 paths = self.git("ls-files", "-z").split(b"\0")[:-1] + [line[3:] for line in lines]
                 self.assert_as_gits(draw.choice([".", *map(os.fsdecode, paths)]))
         self.assertEqual(letters, {b"A ", b"M ", b"T ", b"D ", b"  ", *CONFLICTS})
-
-    def test_damaged_objects_are_refused_or_read_as_by_git(self):
-        """At first they are loose, and half of them are damaged before they are compressed. Then they are packed."""
-        names, refused = [f"{folder}/{number}" for folder in ("d/e", "many") for number in range(40)], 0
-        for at in range(0, 80, 20):
-            self.add(*names[at : at + 20])
-            self.commit()
-        self.git("rm", "-q", "--cached", *names[::9])
-        self.write("a", "bars")
-        lines = self.git_lines()
-        limited = ["prlimit", f"--as={MEMORY}", self.PROGRAM]
-        for seed in range(DAMAGED):
-            if seed == DAMAGED // 2:
-                self.git("repack", "-adfq")
-            pack, unpack = (zlib.compress, zlib.decompress) if seed < DAMAGED // 2 and seed % 2 else (bytes, bytes)
-            draw = random.Random(seed)
-            place = draw.choice(sorted(glob.glob(self.path(".git/objects/*/*"))))
-            old = read(place)
-            os.chmod(place, 0o644)
-            write(place, pack(mutate_bytes(draw, unpack(old))[0]))
-            columns = COLUMNS[seed % 4 // 2 * 2]
-            gits, ours = self.run_in(STATUS_OF_HEADS), self.run_in([*limited, *columns], timeout=10)
-            write(place, old)
-            with self.subTest(seed, gits=gits.stderr):
-                if ours.returncode == 2:
-                    refused += 1
-                    self.assert_fails(ours, "HEAD's commit: |files of HEAD: ")
-                    continue
-                self.assert_ends(ours, as_dirty(lines, *columns))
-                if gits.returncode != 128 or not re.match(UNREAD, gits.stderr):
-                    self.assertEqual((gits.returncode, gits.stdout), (0, lines))
-        self.assertGreater(min(refused, DAMAGED - refused), DAMAGED // 5)

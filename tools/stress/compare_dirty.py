@@ -88,6 +88,8 @@ class Comparer:
         """Yields how each run that differs does."""
         for words, (lines, notes) in self.runs():
             ended = self.program.run(words, {**self.drawing.environment, "GIT_LITERAL_PATHSPECS": "1"})
+            if self.drawing.refusal and "--worktree" not in words:
+                lines, notes = None, self.drawing.refusal
             lines = None if lines is None else as_dirty(lines, *words)
             printed = b"" if lines is None or "-q" in words else lines
             status = 2 if lines is None else int(lines != b"")
@@ -106,11 +108,12 @@ def compared(seeds, keep=None, kind=Drawing, program=GIT_DIRTY):
             comparer = Comparer(git, ours, drawing)
             columns.update(line[:2].decode() for line in comparer.lines(drawing.top)[0].split(b"\n")[:-1])
             columns["files"] += len(drawing.paths)
+            columns.update(drawing.kinds)
             differences = [*comparer.differences()]
             found += differences
             if differences and keep:
                 # A file that is moved to another device would be another.
-                os.rename(drawing.top, os.path.join(keep, str(drawing.seed)))
+                os.rename(drawing.room, os.path.join(keep, str(drawing.seed)))
     return found, columns
 
 

@@ -45,7 +45,7 @@ def drawn(kind, seeds, room):
     """Returns the repositories of these seeds in a folder, made and then edited in a later second."""
     drawings = [kind(seed, os.path.join(room, str(seed))) for seed in seeds]
     for drawing in drawings:
-        os.mkdir(drawing.top)
+        os.makedirs(drawing.top)
         drawing.make()
     if kind.IS_EDITED:
         wait_for_later_second()
@@ -65,9 +65,11 @@ class Drawing:
     """The repository of a seed, in a folder that isn't there before. `environment` is that of git and of the program."""
 
     IS_EDITED, environment = True, SETTINGS
+    # The failure of a run that compares with HEAD, if it has to fail, and words of what was drawn, which are counted.
+    refusal, kinds = None, ()
 
     def __init__(self, seed, top):
-        self.random, self.seed, self.top = random.Random(seed), seed, top
+        self.random, self.seed, self.top, self.room = random.Random(seed), seed, top, top
         self.kind = "sha256" if self.random.random() < 0.2 else "sha1"
         self.version = self.random.choice([2, 2, 4])
         # The kind of each path: file, run (executable), link, or module.

@@ -9,14 +9,15 @@ import tempfile
 import unittest
 from functools import partial
 
-from stress import compare_dirty, draw_histories, mutate_index, mutate_settings
+from stress import compare_commits, compare_dirty, draw_histories, mutate_index, mutate_objects, mutate_settings
 from stress.draw_attributes import AttributeDrawing
+from stress.draw_commits import EACH
 from stress.seeds import run_all
 from support.programs import GIT_DIRTY, STATUS_PROGRAM, Ended
 from support.repositories import COLUMNS, CONFLICTS, as_dirty, merged, read, write
 
-# How many repositories are drawn, of each kind, and how many index files and settings are mutated.
-REPOSITORIES, ATTRIBUTES, MUTATED, MUTATED_SETTINGS = 1000, 200, 10000, 10000
+# How many repositories are drawn, of each kind, and how many index files, settings and objects are mutated.
+REPOSITORIES, ATTRIBUTES, COMMITS, MUTATED, MUTATED_SETTINGS, MUTATED_OBJECTS = 1000, 200, 400, 10000, 10000, 2000
 
 # What spoils the end of a program, whose output is in the file `out`, and whose exit status is $status.
 SPOILERS = ["sed 1d out; exit $status", "sed '$d' out; exit $status", "cat out; echo x; exit $status"]
@@ -94,6 +95,16 @@ class Drawn(unittest.TestCase):
         columns = self.run_seeds(partial(compare_dirty.compared, kind=AttributeDrawing), ATTRIBUTES, compare_dirty.PART)
         self.assertGreater(min(columns["AM"], columns["files"] - columns["AM"]), 10 * ATTRIBUTES)
 
+    def test_drawn_commits_are_compared_as_by_git(self):
+        counts = self.run_seeds(compare_commits.run, COMMITS, compare_dirty.PART)
+        self.assertEqual({one for one in EACH | {"AA", "UU", "UD"} if not counts[one]}, set())
+
+    def test_mutated_objects_are_refused_or_read_as_by_git(self):
+        kinds = self.run_seeds(mutate_objects.run, MUTATED_OBJECTS, mutate_objects.PART // 2)
+        self.assertGreater(kinds["git's lines"], MUTATED_OBJECTS // 8)
+        self.assertGreater(kinds["the lines of the old objects, which git refuses"], 0)
+        self.assertGreater(len(kinds), 20)
+
     def test_mutated_index_files_are_refused_or_reported_as_by_git(self):
         shapes = self.run_seeds(mutate_index.run, MUTATED, mutate_index.PART)
         self.assertGreater(shapes["git's lines"], MUTATED // 10)
@@ -113,6 +124,7 @@ class Spoilt(unittest.TestCase):
     SCRIPTS = [(partial(draw_histories.run, events=200), STATUS_PROGRAM, [2])]
     SCRIPTS += [(partial(compare_dirty.compared, kind=AttributeDrawing), GIT_DIRTY, range(2))]
     SCRIPTS += [(mutate_index.run, GIT_DIRTY, range(20)), (mutate_settings.run, GIT_DIRTY, range(20))]
+    SCRIPTS += [(mutate_objects.run, GIT_DIRTY, [31, 46])]
 
     def test_each_spoilt_end_is_noticed(self):
         for number, (run, program, seeds) in enumerate(self.SCRIPTS):

@@ -16,6 +16,7 @@ from functools import partial
 
 from stress import draw_histories, mutate_index
 from stress.draw_attributes import AttributeDrawing
+from stress.draw_commits import CommitDrawing
 from stress.draw_repositories import Drawing, drawn
 from support.index_bytes import MODE, MTIME, SIZE, parts_of
 from support.programs import TOP
@@ -32,9 +33,10 @@ def node_at(place):
 
 
 def nodes_of(top):
-    """Returns all nodes below a folder but its index, which has inodes and times of the moment."""
+    """Returns all nodes below a folder but its objects and its index, which has inodes and times of the moment."""
     places = [os.path.join(above, name) for above, folders, files in os.walk(top) for name in folders + files]
-    return [(place, node_at(place)) for place in sorted(places) if place != f"{top}/.git/index"]
+    left_out = f"{top}/.git/index", f"{top}/.git/objects/"
+    return [(place, node_at(place)) for place in sorted(places) if not place.startswith(left_out)]
 
 
 def entries_of(drawing):
@@ -76,7 +78,7 @@ class Seeds(unittest.TestCase):
             makers = {"histories": history, "index files": lambda seed: mutate_index.mutated(random.Random(seed), base)}
             for name, make in makers.items():
                 self.assert_same(name, partial(map, make, range(200)))
-            for kind in (Drawing, AttributeDrawing):
+            for kind in (Drawing, AttributeDrawing, CommitDrawing):
                 self.assert_same(kind.__name__, partial(repositories, kind, f"{room}/drawn"))
 
 
