@@ -18,17 +18,18 @@ use Rattle.git_status.specs.declared.staged.Unmerged.{Unmerged}
 abbrev pub unmerged_row : Unmerged → Row
 unmerged_row u = (bstr_bytes u.path, conflict_letters u.conflict)
 
--- The paths in conflict, in order, each once: those of the entries with a stage above 0.
+-- An entry with a stage above 0 is a side of the conflict at its path.
 abbrev pub is_side : IndexEntry → Bool
 is_side e = not (stage_of e == 0)
 
 abbrev pub side_paths : List IndexEntry → List (List ℕ)
 side_paths es = map (λ e. e.path) (filter is_side es)
 
+-- The paths in conflict, in order, each once.
 abbrev pub unmerged_paths : List IndexEntry → List (List ℕ)
 unmerged_paths es = dedup bytes_eq (side_paths es)
 
--- The sides of the conflict at a path: its entries with a stage above 0.
+-- The sides of the conflict at a path.
 abbrev pub sides : List IndexEntry → List ℕ → List IndexEntry
 sides es path = filter (is_in_run path) es
 
