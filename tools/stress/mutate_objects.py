@@ -9,8 +9,8 @@ as a whole or as deltas; or a tree or commit itself, which gets its right id. A 
 bytes:
 
 - with exit status 2, no output but whole lines, and one line on standard error, which begins with `git dirty: `;
-- with exit status 0 or 1, and the lines that git's status prints. If git reads the objects no more, these are the lines
-  of the old ones, which the program found by their ids.
+- with exit status 0 or 1, and the lines that git's status prints. If git reads the objects no more, or others in their
+  place, these are the lines of the old ones, which the program found by their ids.
 
 All other ends are wrong. The environment's GIT_DIRTY names the built program; without it that of this checkout is run.
 With --keep the files with a wrong end stay there. How often each kind of end came is printed. The exit status is 1 if
@@ -407,11 +407,13 @@ def judged(ended, git, lines, words, is_other, columns):
         words = shape_of(re.sub(rb"[0-9a-f]{40,}", b"ID", ended.fault).decode(errors="replace"))
         gits = "git goes on" if git.status == 0 else "git hangs" if git.status is None else "as git"
         return None, f"{words}, {gits}"
+    is_same = (not is_other or UNREAD.match(git.fault)) and as_dirty(lines, *columns) == ended.out
     if git.status == 0:
         if as_dirty(git.out, *columns) == ended.out:
             return None, "git's lines"
+        if is_same:
+            return None, "the lines of the old objects, of which git reads others"
         return None if WITH_SLASH in words else f"other lines than git's: {git.text()}", "other lines than git's"
-    is_same = (not is_other or UNREAD.match(git.fault)) and as_dirty(lines, *columns) == ended.out
     return None if is_same else f"git refuses it: {git.text()}", "the lines of the old objects, which git refuses"
 
 
