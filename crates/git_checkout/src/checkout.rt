@@ -113,10 +113,10 @@ where
     let selected = selected_by(rt, &repository, &request.paths)?;
     let head = head_of_request(rt, &repository, request)?;
     let Some(file) = read_index_file(rt, &repository)? else {
+        check_without_index(rt, top, &head, &selected)?;
         if head.is_some() {
             return run_staged(rt, request, output);
         }
-        check_without_index(rt, top, &selected)?;
         return Ok(0);
     };
     let settings = settings_of(&repository, request, file.timestamp);
@@ -225,9 +225,10 @@ where
 ///
 /// # Errors
 /// Nothing is at one, or out of memory.
-fn check_without_index<'r, R: AllocGlobal + Env + Files>(
-    rt: &'r R,
+fn check_without_index<R: AllocGlobal + Env + Files>(
+    rt: &R,
     top: &str,
+    head: &Option<HeadCommit<'_, R>>,
     selected: &[Selected<'_>],
 ) -> Result<(), Refused>
 where
@@ -235,8 +236,7 @@ where
 {
     let nothing = State::new(rt.alloc(), Moment { secs: 0, nsecs: 0 });
     let worktree = git_worktree(rt, top)?;
-    let none: Option<HeadCommit<'r, R>> = None;
-    check_each(rt.alloc(), &nothing, &worktree, &none, selected)
+    check_each(rt.alloc(), &nothing, &worktree, head, selected)
 }
 
 /// Writes a failure for each path that can't be compared since it isn't UTF-8, and returns the exit status of a failure.

@@ -4,7 +4,7 @@ use crate::checkout::settings_of;
 use crate::head::{HeadCommit, head_at};
 use crate::index_file::read_index_file;
 use crate::refused::Refused;
-use crate::request::{Request, Selected, selected_by};
+use crate::request::{Columns, Request, Selected, selected_by};
 use crate::selection::{check_each, tops_of};
 use git_repository::Repository;
 use git_status::lines::LineStyle;
@@ -17,7 +17,8 @@ use std::os::unix::fs::FileExt;
 use std::rt::{Env, Files};
 
 /// Writes a line for each selected path at which the index differs from HEAD, in the order of the paths, and returns the exit
-/// status of `git dirty --staged`: 0 if there is none, and otherwise 1. `lstat` is called for no file of the worktree.
+/// status of `git dirty --staged`: 0 if there is none, and otherwise 1. `lstat` is called for no file of the worktree. Without an
+/// index file the lines of both columns are these too, and the selected paths were checked before.
 ///
 /// # Errors
 /// There is no repository, its index, HEAD or a tree can't be read, a path isn't in its worktree, is a pattern or selects
@@ -34,11 +35,13 @@ where
     let repository = Repository::discover(rt, request.folder)?;
     let selected = selected_by(rt, &repository, &request.paths)?;
     let head = Some(HeadCommit::read(rt, &repository)?);
-    // A path that is only in the worktree isn't selected.
+    // No path of the worktree is asked for.
     let nowhere = MemoryWorktree::new(alloc);
     let Some(file) = read_index_file(rt, &repository)? else {
         let nothing = State::new(alloc, Moment::default());
-        check_each(alloc, &nothing, &nowhere, &head, &selected)?;
+        if let Columns::Staged = request.columns {
+            check_each(alloc, &nothing, &nowhere, &head, &selected)?;
+        }
         return print_columns(
             alloc,
             request,
