@@ -12,7 +12,7 @@ use Rattle.status_base.specs.Openings.{IsKnownOpening}
 use Rattle.status_base.specs.Paths.{abnormal_component, directories}
 use Rattle.status_base.specs.Sights.{Stats}
 use Rattle.git_attributes.specs.Files.{File}
-use Rattle.git_attributes.specs.WorktreeFiles.{FolderView, Search, nothing, out_of_memory, at_end, opened_search, is_file, file_limit, node_search, checked_search, search_by, file_path, file_of, files_by, known_view, IsAllowed, KnownFilesLaw}
+use Rattle.git_attributes.specs.WorktreeFiles.{FolderView, Search, found, nothing, out_of_memory, at_end, opened_search, is_directory, is_file, file_limit, node_search, checked_search, search_by, file_path, file_of, files_by, known_view, IsAllowed, KnownFilesLaw}
 
 abbrev Openings : Type 0
 Openings = List ℕ → Result Content Fault
@@ -52,13 +52,13 @@ opened_known (Err f) (Ok seen) is present = absurd is
 opened_known known (Err f) (inl same) present = sym (ap opened_search same)
 opened_known known (Err f) (inr memory) present = absurd (present (ap (λ (v : Fault). opened_search (Err v)) memory))
 
-small_known : (small : Bool) (known seen : Result Content Fault) → IsKnownOpening known seen → (if small then opened_search seen else nothing) ≢ out_of_memory
-    → (if small then opened_search seen else nothing) ≡ (if small then opened_search known else nothing)
-small_known true known seen is present = opened_known known seen is present
-small_known false known seen is present = refl
+small_known : (small : Bool) (otherwise : Search) (known seen : Result Content Fault) → IsKnownOpening known seen → (if small then opened_search seen else otherwise) ≢ out_of_memory
+    → (if small then opened_search seen else otherwise) ≡ (if small then opened_search known else otherwise)
+small_known true otherwise known seen is present = opened_known known seen is present
+small_known false otherwise known seen is present = refl
 
 node_same : (node : Result Metadata Fault) (known seen : Result Content Fault) → IsKnownOpening known seen → node_search node seen ≢ out_of_memory → node_search node seen ≡ node_search node known
-node_same (Ok node) known seen is present = small_known (is_file node.kind && nat_lt node.len file_limit) known seen is present
+node_same (Ok node) known seen is present = small_known (is_file node.kind && nat_lt node.len file_limit) (if is_directory node.kind then found [] else nothing) known seen is present
 node_same (Err f) known seen is present = refl
 
 node_known : (known seen : Result Metadata Fault) (known_opened seen_opened : Result Content Fault) → IsAnswer known seen → IsKnownOpening known_opened seen_opened → node_search seen seen_opened ≢ out_of_memory → node_search seen seen_opened ≡ node_search known known_opened

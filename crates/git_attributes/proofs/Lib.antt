@@ -13,3 +13,4 @@ mod Lines
 mod Tables
 pub mod Sent
 mod SharedSearch
+mod StagedFiles

@@ -9,6 +9,7 @@ pub mod Patterns
 pub mod Quoted
 pub mod Sets
 pub mod SharedLaws
+pub mod StagedFiles
 pub mod States
 pub mod Tables
 pub mod Text

@@ -93,9 +93,17 @@ is_file kinds.Other = false
 abbrev pub file_limit : ℕ
 file_limit = 104857600
 
--- Only a regular file that is small enough is opened.
+abbrev pub is_directory : NodeKind → Bool
+is_directory kinds.File = false
+is_directory kinds.Link = false
+is_directory kinds.Directory = true
+is_directory kinds.Other = false
+
+-- Only a regular file that is small enough is opened. As in git, a folder counts as a file without lines.
 abbrev pub node_search : Result Metadata Fault → Result Content Fault → Search
-node_search (Ok node) opened = if is_file node.kind && nat_lt node.len file_limit then opened_search opened else nothing
+node_search (Ok node) opened =
+    if is_file node.kind && nat_lt node.len file_limit then opened_search opened
+    else (if is_directory node.kind then found [] else nothing)
 node_search (Err f) opened = at_fault f
 
 -- Nothing is checked whose path isn't normal, or leads through a link or a directory with a fault.

@@ -1,10 +1,12 @@
 //! The attribute files of a worktree.
 
-ghost use Rattle.std.specs.Prelude.{◌≡◌, ◌++◌, IfOk, List, map};
-ghost use Rattle.git_attributes.specs.Files.{File, attributes_of};
+ghost use Rattle.std.specs.Prelude.{◌≡◌, ◌++◌, IfOk, map};
+ghost use Rattle.git_attributes.specs.Files.{attributes_of};
 ghost use Rattle.git_attributes.specs.Views.{attributes_view, file_view};
 
 use crate::attributes::{Attributes, BUILT_IN, Source};
+use crate::fault::AttributeFault;
+use status_index::State;
 use std::alloc::{AllocError, Global};
 
 /// An attribute file that was read.
@@ -19,21 +21,29 @@ pub struct AttributeFile {
     pub bytes: Vec<u8>,
 }
 
-/// The attribute files that count for a worktree besides those within it.
+/// The attribute files that count for a worktree and an index besides those within the worktree.
 pub trait AttributeFiles: Drop {
-    /// Which files count, the weakest one first, if these were found within the worktree.
-    ghost are_files: { Self → List File → List File → Type 0 };
+    ghost use Rattle.std.specs.Prelude.{IfOk, List, map};
+    ghost use Rattle.status_index.specs.Entries.{IndexEntry};
+    ghost use Rattle.status_index.specs.States.{index_of};
+    ghost use Rattle.git_attributes.specs.Files.{File};
+    ghost use Rattle.git_attributes.specs.Views.{file_view};
 
-    /// Puts the files that were found within the worktree among the others. Returns all of them, the weakest one first.
+    /// Which files count for an index, the weakest one first, if these were found within the worktree.
+    ghost are_files: { Self → List IndexEntry → List File → List File → Type 0 };
+
+    /// Puts the files that were found within the worktree among the others that count for an index. Returns all of them, the
+    /// weakest one first.
     ///
     /// # Errors
-    /// Out of memory.
+    /// The object of a file can't be read, or out of memory.
     fn with_others(
         &self,
         alloc: Global,
+        index: &State,
         within: Vec<AttributeFile>,
-    ) -> Result<Vec<AttributeFile>, AllocError>
-        ensures { IfOk result (λ files. are_files self.now (map file_view within.items) (map file_view files.items)) };
+    ) -> Result<Vec<AttributeFile>, AttributeFault>
+        ensures { IfOk result (λ files. are_files self.now (index_of index.now) (map file_view within.items) (map file_view files.items)) };
 }
 
 /// Returns some files and others after them.

@@ -4,11 +4,13 @@
 //! `attributes` has the states that `files` give to a path's attributes: it reads their lines (`line`), which have a
 //! pattern or a macro, and assignments (`assignment`), between blanks or in quotes (`words`). `pattern` reads a
 //! pattern's pieces and sets of bytes (`set`), and `table` compares paths with them. `laws` has the law of
-//! these comparisons. `worktree_files` finds the attribute files within a worktree.
+//! these comparisons. `worktree_files` finds the attribute files within a worktree, and `staged_files` those that are only in the
+//! index.
 #![tactic(auto)]
 
 pub mod assignment;
 pub mod attributes;
+pub mod fault;
 pub mod files;
 pub mod laws;
 mod line;
@@ -17,16 +19,19 @@ pub mod normalization;
 mod pattern;
 mod set;
 mod shared_search;
+pub mod staged_files;
 mod table;
 mod words;
 pub mod worktree_files;
 
 pub use assignment::{Assignment, Value};
 pub use attributes::{Attributes, Source};
+pub use fault::AttributeFault;
 pub use files::{AttributeFile, AttributeFiles, attributes_of};
 pub use line_ends::{LineEnds, ids_decide_as_git_does};
 pub use normalization::{
     Normalization, is_binary, is_unconverted, normalization_of, push_normalized,
 };
 pub use shared_search::find_attribute_files;
+pub use staged_files::WithStaged;
 pub use worktree_files::{ATTRIBUTES_LIMIT, FolderSearch};

@@ -49,7 +49,7 @@ fn has_slash(text: &[u8]) -> bool
 }
 
 /// Returns whether a text ends in a slash.
-fn ends_in_slash(text: &[u8]) -> bool
+pub(crate) fn ends_in_slash(text: &[u8]) -> bool
     ensures { result ≡ ends_in_slash text.now }
 {
     !text.is_empty() && text[text.len() - 1] == b'/'

@@ -22,10 +22,9 @@ use status_base::stack::{StackError, SymlinkCheck};
 use status_base::worktree::{Fault, Guard, GuardedWorktree, Metadata, NodeKind, Worktree};
 use status_index::{Entry, State, read_all};
 use std::alloc::{AllocError, Global};
-use std::sync::atomic::{AtomicBool, Ordering};
 
 /// The name of attribute files within a worktree.
-const NAME: &[u8] = b".gitattributes";
+pub(crate) const NAME: &[u8] = b".gitattributes";
 
 /// The length of a path from which on the system refuses it (Linux's `PATH_MAX`).
 const PATH_LIMIT: usize = 4096;
@@ -47,25 +46,17 @@ enum Found {
 /// A search for the attribute files within a worktree: of its top, and of each folder on the way to the path of an entry.
 ///
 /// As in git, a file that can't be read counts as none, and so does a link. A folder isn't searched if its path isn't normal
-/// or leads through a link, so no file outside is opened. Unlike git, a file that is only in the index isn't read: then the
-/// search notes that, if its folder is in the worktree.
+/// or leads through a link, so no file outside is opened.
 #[derive(Drop)]
 pub struct FolderSearch<'s, W> {
     alloc: Global,
     worktree: GuardedWorktree<'s, W>,
     index: &'s State,
-    has_named: bool,
-    unread: &'s AtomicBool,
 }
 
 impl<'s, W: Worktree> FolderSearch<'s, W> {
-    /// Makes a search for an index. `unread` becomes true if git would read a file that is only in the index.
-    pub fn new(
-        alloc: Global,
-        worktree: &'s W,
-        index: &'s State,
-        unread: &'s AtomicBool,
-    ) -> FolderSearch<'s, W>
+    /// Makes a search for an index.
+    pub fn new(alloc: Global, worktree: &'s W, index: &'s State) -> FolderSearch<'s, W>
         ensures worktree { result.worktree ≡ guarded worktree.entry false }
         ensures index { result.index.now ≡ index.entry.now }
     {
@@ -73,8 +64,6 @@ impl<'s, W: Worktree> FolderSearch<'s, W> {
             alloc,
             worktree: GuardedWorktree::new(worktree, false),
             index,
-            has_named: has_named(index),
-            unread,
         }
     }
 
@@ -192,10 +181,7 @@ impl<'s, W: Worktree> FolderSearch<'s, W> {
                 files.push(new_file(self.alloc, folder, bytes)?)?;
                 Ok(true)
             }
-            Found::NoFile => {
-                self.note_unread(folder, path)?;
-                Ok(true)
-            }
+            Found::NoFile => Ok(true),
             Found::NoFolder => Ok(false),
         }
     }
@@ -225,7 +211,7 @@ impl<'s, W: Worktree> FolderSearch<'s, W> {
     }
 
     /// Returns the bytes of the file at a path. None if there is none that can be read. Links aren't opened, since they may lead
-    /// to a device, and neither are files that are too large.
+    /// to a device, and neither are files that are too large. A folder has no bytes.
     fn read_file(&self, path: BStr<'_>) -> Result<Option<Vec<u8>>, AllocError>
         requires { IsOpen (W.may_stat self.now.worktree.worktree.now) (bstr_bytes path) }
         ensures { IfOk result (λ read. IsReadSeen (W.may_stat self.now.worktree.worktree.now (bstr_bytes path.entry)) (W.may_open self.now.worktree.worktree.now (bstr_bytes path.entry)) (option_map (λ bytes. bytes.items) read)) }
@@ -234,45 +220,11 @@ impl<'s, W: Worktree> FolderSearch<'s, W> {
             Ok(node) if node.kind == NodeKind::File && node.len < ATTRIBUTES_LIMIT as u64 => {
                 read_open(self.alloc, self.worktree, path, &node)
             }
+            Ok(node) if node.kind == NodeKind::Directory => Ok(Some(Vec::new(self.alloc))),
             Ok(_) => Ok(None),
             Err(fault) => none_unless_memory(fault),
         }
     }
-
-    /// Notes that git would read a file that is only in the index, if its folder may be in the worktree.
-    fn note_unread(&self, folder: &[u8], path: BStr<'_>) -> Result<(), AllocError> {
-        if self.has_named && !self.index.entries_at(path).is_empty() && self.may_have(folder)? {
-            self.unread.store(true, Ordering::Relaxed);
-        }
-        Ok(())
-    }
-
-    /// Returns whether the worktree may have files in a folder, whose path ends with a slash.
-    fn may_have(&self, folder: &[u8]) -> Result<bool, AllocError> {
-        let [path @ .., _] = folder else {
-            return Ok(true);
-        };
-        match self.worktree.lstat(BStr::new(path)) {
-            Ok(node) => Ok(node.kind == NodeKind::Directory),
-            Err(Fault::Memory) => Err(AllocError),
-            Err(Fault::NotFound | Fault::NotADirectory) => Ok(false),
-            Err(_) => Ok(true),
-        }
-    }
-}
-
-/// Returns whether an entry is an attribute file.
-fn has_named(index: &State) -> bool {
-    let backing = index.path_backing();
-    index
-        .entries()
-        .iter()
-        .any(|entry| is_named(entry.path_in(backing).as_bytes()))
-}
-
-/// Returns whether a path is one of an attribute file. Few others end so.
-fn is_named(path: &[u8]) -> bool {
-    matches!(path, [.., b'e', b's']) && path.ends_with(NAME)
 }
 
 /// Returns the attribute file of a folder, with these bytes.

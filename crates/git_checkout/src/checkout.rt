@@ -5,12 +5,13 @@ ghost use Rattle.git_status.specs.Reads.{IsRead};
 
 use crate::head::{HeadCommit, head_at};
 use crate::index_file::{FoundIndex, read_index_file};
+use crate::objects::{LazyObjects, modules_of};
 use crate::refresh::Refresh;
 use crate::refused::{Illformed, Refused};
 use crate::request::{Columns, Request, Selected, selected_by};
 use crate::selection::{Exceptions, check_each, tops_of, untracked_of};
 use crate::staged::run_staged;
-use git_attributes::AttributeFiles;
+use git_attributes::{AttributeFiles, WithStaged};
 use git_explain::{Wanted, run_explain};
 use git_repository::{
     GitAttributeFiles, IgnoredSubmodules, IntendedWorktree, Repository, SubmoduleHeads,
@@ -31,7 +32,6 @@ use std::os::unix::fs::FileExt;
 use std::path::Path;
 use std::rt::{Env, Files};
 use std::sync::Wait;
-use std::sync::atomic::{AtomicBool, Ordering};
 use std::thread::Threads;
 use text_output::OutputError;
 
@@ -123,7 +123,8 @@ where
     let read = read_for(request, alloc, &file.bytes, &settings)?;
     let worktree = worktree_at(rt, top, request.enter)?;
     check_each(alloc, &read.file.state, &worktree, &head, &selected)?;
-    let ignored = IgnoredSubmodules::read(rt, top, &repository.config, &read.file.state)?;
+    let modules = modules_of(rt, &repository, &read.file.state, &head)?;
+    let ignored = IgnoredSubmodules::new(alloc, &modules, &repository.config)?;
     let Exceptions {
         left_out,
         intended,
@@ -131,8 +132,14 @@ where
     } = Exceptions::of(alloc, &read.file.state, &worktree, &selected, &ignored)?;
     let tops = tops_of(alloc, &selected)?;
     let staged_tops = tops_of(alloc, &selected)?;
-    let unread = AtomicBool::new(false);
-    let attributes = GitAttributeFiles::new(rt, &repository)?;
+    let objects = LazyObjects {
+        rt,
+        repository: &repository,
+    };
+    let attributes = WithStaged {
+        others: GitAttributeFiles::new(rt, &repository)?,
+        objects: &objects,
+    };
     let asked = Asked {
         settings,
         worktree: &worktree,
@@ -143,7 +150,6 @@ where
         },
         attributes,
         head: &head,
-        unread: &unread,
     };
     let begun = if request.refresh {
         Some(time_of_lock(rt, repository.index.as_str()))
@@ -177,7 +183,6 @@ where
         repository: &repository,
         old: &file,
         begun,
-        unread: unread.load(Ordering::Relaxed),
     };
     refresh.end(rt, compared)
 }
@@ -328,7 +333,6 @@ where
         paths: asked.paths,
         attributes: asked.attributes,
         head: &beside,
-        unread: asked.unread,
     };
     if request.refresh && !request.explain {
         return if request.quiet {

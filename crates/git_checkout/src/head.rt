@@ -2,7 +2,7 @@
 
 use crate::refused::Refused;
 use crate::replaced::check_objects;
-use git_objects::{ObjectFault, ObjectKind, ObjectStore, ReadObject as _, tree_of_commit};
+use git_objects::{FirstItem, ObjectFault, ObjectKind, ObjectStore, ReadObject as _, tree_of_commit};
 use git_repository::{Repository, head_of};
 use git_staged::{Head, TreeFault, read_tree};
 use git_status::{Failure, Paths};
@@ -29,16 +29,32 @@ where
     /// HEAD or its commit can't be read, the environment names another folder of objects, the repository replaces objects, or
     /// out of memory.
     pub(crate) fn read(rt: &'r R, repository: &Repository) -> Result<HeadCommit<'r, R>, Refused> {
-        check_objects(rt, repository)?;
-        let kind = repository.settings.kind;
+        let objects = store_of(rt, repository)?;
         let common_dir = repository.common_dir.as_str();
-        let folder = format!(in rt.alloc(); "{common_dir}/objects").map_err(|_| AllocError)?;
-        let objects = ObjectStore::open(rt, kind, folder.as_str())?;
         let tree = match head_of(rt, repository.git_dir.as_str(), common_dir)? {
             Some(commit) => Some(tree_in(&objects, commit)?),
             None => None,
         };
         Ok(HeadCommit { objects, tree })
+    }
+
+    /// Returns the id of the commit's file or folder of this name at the top. None if it has none.
+    ///
+    /// # Errors
+    /// The tree can't be read.
+    pub(crate) fn item_at_top(&self, name: &[u8]) -> Result<Option<ObjectId>, Refused> {
+        let Some(tree) = self.tree else {
+            return Ok(None);
+        };
+        let object = self.objects.read(tree)?;
+        let mut rest = object.bytes.as_slice();
+        while let Some(first) = FirstItem::of_tree(tree.kind(), rest)? {
+            if first.item.name == name {
+                return Ok(Some(first.item.id));
+            }
+            rest = first.rest;
+        }
+        Ok(None)
     }
 
     /// Returns the commit's files, as an index. A branch without a commit has none.
@@ -51,6 +67,23 @@ where
             None => Ok(State::new(alloc, Moment::default())),
         }
     }
+}
+
+/// Opens the objects of a repository.
+///
+/// # Errors
+/// The environment names another folder of objects, the repository replaces objects, the folder can't be read, or out of memory.
+pub(crate) fn store_of<'r, R: AllocGlobal + Env + Files>(
+    rt: &'r R,
+    repository: &Repository,
+) -> Result<ObjectStore<'r, R>, Refused>
+where
+    R::File: FileExt,
+{
+    check_objects(rt, repository)?;
+    let common_dir = repository.common_dir.as_str();
+    let folder = format!(in rt.alloc(); "{common_dir}/objects").map_err(|_| AllocError)?;
+    Ok(ObjectStore::open(rt, repository.settings.kind, folder.as_str())?)
 }
 
 /// Returns what an index is compared with at these paths, if it is.

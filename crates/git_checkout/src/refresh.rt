@@ -20,8 +20,6 @@ pub struct Refresh<'a> {
     pub old: &'a FoundIndex,
     /// When the refresh began: the time of a lock. That there was none counts once there is a new file.
     pub begun: Result<SystemTime, RepositoryError>,
-    /// Whether git reads an attribute file in the index, which the status didn't.
-    pub unread: bool,
 }
 
 impl Refresh<'_> {
@@ -77,8 +75,6 @@ impl Refresh<'_> {
             Some("core.ignoreCase is set, and attributes of paths are found by their exact case")
         } else if settings.has_other_attributes {
             Some("git may read other attributes (attr.tree, GIT_ATTR_SOURCE, GIT_COMMON_DIR)")
-        } else if self.unread {
-            Some("a .gitattributes of the index can't be read in the worktree")
         } else if !is_whole && self.old.timestamp.secs == 0 {
             Some("its time is in the first second of 1970, when no entry is racy to git")
         } else {

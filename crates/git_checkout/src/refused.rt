@@ -44,6 +44,11 @@ pub enum Refused {
     NoCommit,
     /// HEAD's commit can't be read.
     Object(ObjectFault),
+    /// The `.gitmodules` of the index or of HEAD can't be read, and the worktree has none.
+    Modules {
+        /// Why it isn't read.
+        fault: ObjectFault,
+    },
     /// The time of the index file isn't known.
     Clock,
     /// Memory ran out.
@@ -107,6 +112,9 @@ impl fmt::Display for Refused {
             ),
             Refused::NoCommit => f.write_str("HEAD isn't a commit"),
             Refused::Object(fault) => write!(f, "can't read HEAD's commit: {fault}"),
+            Refused::Modules { fault } => {
+                write!(f, "can't read .gitmodules, which isn't in the worktree: {fault}")
+            }
             Refused::Clock => f.write_str("the time of the index file isn't known"),
             Refused::Memory => f.write_str("out of memory"),
         }

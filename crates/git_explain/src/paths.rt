@@ -14,7 +14,7 @@ use crate::text::{push_other, push_text};
 use bstr::BStr;
 use git_attributes::{AttributeFiles, FolderSearch, LineEnds, attributes_of};
 use git_staged::FindStaged;
-use git_status::{Asked, Question};
+use git_status::{Asked, Failure, Question};
 use status_base::worktree::{GuardedWorktree, Pathspec, SubmoduleStatus, Worktree};
 use status_index::{Entry, State};
 use std::alloc::{AllocError, Global};
@@ -47,7 +47,7 @@ pub(crate) struct Explanations {
 /// Explains each selected path of an index, in index order, and adds those that aren't compared.
 ///
 /// # Errors
-/// Out of memory.
+/// An attribute file that is only in the index can't be read, or out of memory.
 pub(crate) fn explain_each<
     'a,
     W: Worktree,
@@ -60,11 +60,11 @@ pub(crate) fn explain_each<
     index: &State,
     asked: Asked<'a, W, S, P, A, H>,
     wanted: Wanted<'_>,
-) -> Result<Explanations, AllocError>
+) -> Result<Explanations, Failure>
     ensures { IfOk result (λ found. AreExplained (⟦<Asked<'a, W, S, P, A, H> as Question>⟧.asking asked.entry) (P.included asked.entry.paths) index.now found.differs found.failed) }
 {
-    let within = FolderSearch::new(alloc, asked.worktree, index, asked.unread).find()?;
-    let files = asked.attributes.with_others(alloc, within)?;
+    let within = FolderSearch::new(alloc, asked.worktree, index).find()?;
+    let files = asked.attributes.with_others(alloc, index, within)?;
     let attributes = attributes_of(alloc, &files)?;
     let Asked {
         settings,

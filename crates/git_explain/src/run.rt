@@ -39,8 +39,9 @@ pub fn run_explain<
     ensures quiet { result ≢ 2 → E.contents faults.new ≡ E.contents faults.old }
     ensures explained { result ≢ 2 → AreExplained (⟦<Asked<'a, W, S, P, A, H> as Question>⟧.asking asked.entry) (P.included asked.entry.paths) index.now (result == 1) false }
 {
-    let Ok(found) = explain_each(alloc, index, asked, wanted) else {
-        return print_failure(alloc, "out of memory", faults);
+    let found = match explain_each(alloc, index, asked, wanted) {
+        Ok(found) => found,
+        Err(failure) => return print_failure(alloc, failure, faults),
     };
     if let Err(error) = print_all(&found.text, output) {
         return print_failure(alloc, error, faults);

@@ -64,6 +64,9 @@ pub enum ObjectFault {
     /// A named pipe, a device, a socket or a folder has the path of a file. It isn't opened.
     #[error("not a regular file")]
     NotRegular,
+    /// Git reads other objects than those of the store.
+    #[error("git reads other objects than those of the repository")]
+    Elsewhere,
     /// The system's error.
     #[error("{0}")]
     System(io::ErrorKind),

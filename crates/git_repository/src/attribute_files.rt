@@ -9,7 +9,8 @@ use crate::files::joined;
 use crate::location::Repository;
 use crate::outer_attributes::outer_files;
 use crate::regular::{Unread, read_regular};
-use git_attributes::{ATTRIBUTES_LIMIT, AttributeFile, AttributeFiles};
+use git_attributes::{ATTRIBUTES_LIMIT, AttributeFault, AttributeFile, AttributeFiles};
+use status_index::State;
 use std::alloc::{AllocError, Global};
 use std::io;
 use std::rt::{Env, Files};
@@ -84,13 +85,14 @@ fn files_outside<R: Files + AllocGlobal>(
 impl<R: Files + AllocGlobal> AttributeFiles for GitAttributeFiles<'_, R> {
     ghost use Rattle.git_repository.specs.AttributeFiles.{AreRepositoryFiles};
 
-    ghost are_files = { λ _. AreRepositoryFiles };
+    ghost are_files = { λ _ _. AreRepositoryFiles };
 
     fn with_others(
         &self,
         alloc: Global,
+        _index: &State,
         within: Vec<AttributeFile>,
-    ) -> Result<Vec<AttributeFile>, AllocError> {
+    ) -> Result<Vec<AttributeFile>, AttributeFault> {
         let mut files = files_outside(alloc, self.rt, &self.outer)?;
         let mut inner = within;
         files.append(&mut inner)?;

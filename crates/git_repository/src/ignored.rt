@@ -3,7 +3,9 @@
 use crate::config::{Config, Variable};
 use crate::error::RepositoryError;
 use crate::files::joined;
-use crate::sources::read_file;
+use crate::sources::config_of;
+use crate::files::read_if_there;
+use crate::regular::SMALL_LIMIT;
 use bstr::BStr;
 use status_index::State;
 use std::alloc::{AllocError, Global};
@@ -11,8 +13,8 @@ use std::collections::BTreeMap;
 use std::fs;
 use std::rt::Files;
 
-// The name of the file that names submodules.
-const MODULES: &str = ".gitmodules";
+/// The name of the file that names submodules.
+pub const MODULES: &str = ".gitmodules";
 
 // The section of the variables on a submodule.
 const SECTION: &[u8] = b"submodule";
@@ -20,51 +22,99 @@ const SECTION: &[u8] = b"submodule";
 // The value of `ignore` for a submodule that doesn't count.
 const ALL: &[u8] = b"all";
 
-/// The submodules that don't count: `submodule.NAME.ignore` is `all`, in the configuration or, if it isn't set there, in the
-/// worktree's `.gitmodules`. If it is set in neither, `diff.ignoreSubmodules` is `all`.
+/// A `.gitmodules`, which names submodules.
 #[derive(Drop)]
-pub struct IgnoredSubmodules {
-    modules: Modules,
-    // Whether the submodules that `.gitmodules` doesn't name are ignored.
-    are_others_ignored: bool,
-    /// Whether `.gitmodules` isn't read although it is there: it is a link or no regular file, the system refuses, or git fails
-    /// for a line of it. Then none of its lines counts. If git reads it or fails, no submodule is ignored.
-    pub is_unread: bool,
+pub enum ModulesFile {
+    /// Git doesn't read it: the index has no submodule, or has the file in conflict.
+    Unneeded,
+    /// The worktree has none.
+    Missing,
+    /// The variables that it states.
+    Variables(Config),
+    /// It can't be read: it is no regular file, or the system refuses.
+    Unreadable,
+    /// It is a link, or a line of it can't be read, so git reads it otherwise, or fails.
+    Unknown,
 }
 
-impl IgnoredSubmodules {
-    /// Reads which submodules of a worktree don't count. As in git, `.gitmodules` isn't read if the index has no submodule, or
-    /// if the file itself is in conflict.
+impl ModulesFile {
+    /// Reads the `.gitmodules` of a worktree.
     ///
     /// # Errors
     /// Out of memory.
     pub fn read<R: Files + AllocGlobal>(
         rt: &R,
         top: &str,
-        config: &Config,
         index: &State,
-    ) -> Result<IgnoredSubmodules, RepositoryError> {
-        let alloc = rt.alloc();
+    ) -> Result<ModulesFile, RepositoryError> {
+        if !needs_modules(index) {
+            return Ok(ModulesFile::Unneeded);
+        }
+        let path = joined(rt.alloc(), top, MODULES)?;
+        if is_link(rt, path.as_str()) {
+            return Ok(ModulesFile::Unknown);
+        }
+        match read_if_there(rt, path.as_str(), SMALL_LIMIT) {
+            Ok(Some(bytes)) => ModulesFile::of(rt.alloc(), &bytes),
+            Ok(None) => Ok(ModulesFile::Missing),
+            Err(error) if error.is_unreadable() => Ok(ModulesFile::Unreadable),
+            Err(error) => Err(error),
+        }
+    }
+
+    /// Returns what these bytes of a `.gitmodules` state.
+    ///
+    /// # Errors
+    /// Out of memory.
+    pub fn of(alloc: Global, bytes: &[u8]) -> Result<ModulesFile, RepositoryError> {
+        match config_of(alloc, bytes, MODULES) {
+            Ok(variables) => Ok(ModulesFile::Variables(variables)),
+            Err(error) if error.is_bad_config() => Ok(ModulesFile::Unknown),
+            Err(error) => Err(error),
+        }
+    }
+}
+
+/// The submodules that don't count: `submodule.NAME.ignore` is `all`, in the configuration or, if it isn't set there, in
+/// `.gitmodules`. If it is set in neither, `diff.ignoreSubmodules` is `all`.
+#[derive(Drop)]
+pub struct IgnoredSubmodules {
+    modules: Modules,
+    // Whether the submodules that `.gitmodules` doesn't name are ignored.
+    are_others_ignored: bool,
+    /// Whether `.gitmodules` can't be read although it is there. Then none of its lines counts. If git reads it or fails, no
+    /// submodule is ignored.
+    pub is_unread: bool,
+}
+
+impl IgnoredSubmodules {
+    /// Returns which submodules don't count, by a `.gitmodules` and the configuration.
+    ///
+    /// # Errors
+    /// Out of memory.
+    pub fn new(
+        alloc: Global,
+        file: &ModulesFile,
+        config: &Config,
+    ) -> Result<IgnoredSubmodules, AllocError> {
         let are_others_ignored = match config.get(b"diff", None, b"ignoresubmodules") {
             Some(found) => is_all(found),
             None => false,
         };
-        if !needs_modules(index) {
-            return Ok(IgnoredSubmodules::without(alloc, are_others_ignored, false));
-        }
-        let path = joined(alloc, top, MODULES)?;
-        if is_link(rt, path.as_str()) {
-            return Ok(IgnoredSubmodules::without(alloc, false, true));
-        }
-        match read_file(rt, path.as_str()) {
-            Ok(modules) => Ok(IgnoredSubmodules::of(alloc, &modules, config, are_others_ignored)?),
-            Err(error) if error.is_bad_config() => {
-                Ok(IgnoredSubmodules::without(alloc, false, true))
+        match file {
+            ModulesFile::Variables(variables) => {
+                IgnoredSubmodules::of(alloc, variables, config, are_others_ignored)
             }
-            Err(error) if error.is_unreadable() => {
+            ModulesFile::Missing => {
+                IgnoredSubmodules::of(alloc, &Config::new(alloc), config, are_others_ignored)
+            }
+            ModulesFile::Unneeded => {
+                Ok(IgnoredSubmodules::without(alloc, are_others_ignored, false))
+            }
+            ModulesFile::Unreadable => {
                 Ok(IgnoredSubmodules::without(alloc, are_others_ignored, true))
             }
-            Err(error) => Err(error),
+            ModulesFile::Unknown => Ok(IgnoredSubmodules::without(alloc, false, true)),
         }
     }
 

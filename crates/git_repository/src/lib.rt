@@ -33,7 +33,7 @@ pub use attribute_files::GitAttributeFiles;
 pub use config::{Config, ConfigError, Variable};
 pub use error::RepositoryError;
 pub use heads::head_of;
-pub use ignored::IgnoredSubmodules;
+pub use ignored::{IgnoredSubmodules, MODULES, ModulesFile};
 pub use intended::IntendedWorktree;
 pub use location::Repository;
 pub use lock::{replace_index, time_of_lock};

@@ -22,11 +22,19 @@ pub fn read_file<R: Files + AllocGlobal>(rt: &R, path: &str) -> Result<Config, R
     let Some(bytes) = read_if_there(rt, path, SMALL_LIMIT)? else {
         return Ok(Config::new(rt.alloc()));
     };
-    match read_config(rt.alloc(), &bytes) {
+    config_of(rt.alloc(), &bytes, path)
+}
+
+/// Returns the configuration of these bytes, which are those of the file at a path.
+///
+/// # Errors
+/// A line can't be read, or out of memory.
+pub fn config_of(alloc: Global, bytes: &[u8], path: &str) -> Result<Config, RepositoryError> {
+    match read_config(alloc, bytes) {
         Ok(config) => Ok(config),
         Err(ConfigError::Line { line }) => Err(RepositoryError::BadConfig {
             line,
-            path: String::from_str(rt.alloc(), path)?,
+            path: String::from_str(alloc, path)?,
         }),
         Err(ConfigError::Memory(error)) => Err(RepositoryError::Memory(error)),
     }

@@ -24,7 +24,9 @@ use Rattle.git_staged.specs.Staged.{MayStage}
 use Rattle.git_staged.specs.declared.error.TreeFault.{TreeFault}
 use Rattle.git_staged.specs.declared.error.TreeFault.TheVariants as trees
 use Rattle.git_staged.specs.declared.letters.Letter.{Letter}
-use Rattle.git_status.specs.Failures.{failure_of_head}
+use Rattle.git_attributes.specs.declared.fault.AttributeFault.{AttributeFault}
+use Rattle.git_attributes.specs.declared.fault.AttributeFault.TheVariants as attributes
+use Rattle.git_status.specs.Failures.{failure_of_attributes, failure_of_head}
 use Rattle.git_status.specs.Founds.{IsFoundIn, IsFoundRun, IsIndexFound}
 use Rattle.git_status.specs.Refreshes.{IsFileRefreshed, IsRefresh, IsRefreshedFile, IsUnrefreshed}
 use Rattle.git_status.specs.Runs.{Asking, Converting, IsComputed, IsEarly, IsCommandEnd, IsCommandRun, IsStatusRun, ReadFile}
@@ -49,11 +51,16 @@ memory_early kind bytes (Err f) failed = inl failed
 -- HEAD's files couldn't be read
 head_early : (kind : HashKind) (bytes : List ℕ) (fault : TreeFault) → IsEarly kind bytes (failure_of_head fault)
 head_early kind bytes trees.Memory = inl refl
-head_early kind bytes (trees.Object id fault) = inr (inr (trees.Object id fault, refl))
-head_early kind bytes (trees.NoTree id) = inr (inr (trees.NoTree id, refl))
-head_early kind bytes trees.NotAscending = inr (inr (trees.NotAscending, refl))
-head_early kind bytes trees.ManyItems = inr (inr (trees.ManyItems, refl))
-head_early kind bytes trees.TooDeep = inr (inr (trees.TooDeep, refl))
+head_early kind bytes (trees.Object id fault) = inr (inr (inl (trees.Object id fault, refl)))
+head_early kind bytes (trees.NoTree id) = inr (inr (inl (trees.NoTree id, refl)))
+head_early kind bytes trees.NotAscending = inr (inr (inl (trees.NotAscending, refl)))
+head_early kind bytes trees.ManyItems = inr (inr (inl (trees.ManyItems, refl)))
+head_early kind bytes trees.TooDeep = inr (inr (inl (trees.TooDeep, refl)))
+
+-- an attribute file couldn't be read
+attributes_early : (kind : HashKind) (bytes : List ℕ) (fault : AttributeFault) → IsEarly kind bytes (failure_of_attributes fault)
+attributes_early kind bytes attributes.Memory = inl refl
+attributes_early kind bytes (attributes.Object path fault) = inr (inr (inr (path, fault, refl)))
 
 module _ {T U : Type 0} where
   -- the changes were found, if they are wanted
@@ -111,6 +118,13 @@ module _ {T U : Type 0} where
   unfolding IsIndexFound
   headless_index wanted a bytes index known fault f (Ok found) is failed = absurd failed
   headless_index wanted a bytes index known fault f (Err e) is failed = inr (subst (IsEarly a.settings.kind bytes) (sym (failed ∙ is)) (head_early a.settings.kind bytes fault), refl)
+
+  -- an attribute file can't be read
+  pub unattributed_index : (wanted : Bool) (a : Asking T U) (bytes : List ℕ) (index : State) (known : Option (List ℕ)) (fault : AttributeFault) (result : Result Found Failure)
+      → IsErrAnd result (λ e. e ≡ failure_of_attributes fault) → IsIndexFound wanted a bytes index known result known
+  unfolding IsIndexFound
+  unattributed_index wanted a bytes index known fault (Ok found) failed = absurd failed
+  unattributed_index wanted a bytes index known fault (Err e) failed = inr (subst (IsEarly a.settings.kind bytes) (sym failed) (attributes_early a.settings.kind bytes fault), refl)
 
   -- the checksum is wrong
   pub wrong_index : (wanted : Bool) (a : Asking T U) (bytes : List ℕ) (index : State) (known : Option (List ℕ)) → (EndsWithChecksum a.settings.kind bytes → ⊥) → IsIndexFound wanted a bytes index known (Err (Index Checksum)) known

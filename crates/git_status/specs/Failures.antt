@@ -1,4 +1,6 @@
 -- The command's failure for an error. Out of memory is one failure, wherever it happens.
+use Rattle.git_attributes.specs.declared.fault.AttributeFault.{AttributeFault}
+use Rattle.git_attributes.specs.declared.fault.AttributeFault.TheVariants as attributes
 use Rattle.git_index.specs.declared.fault.IndexFileError.{IndexFileError}
 use Rattle.git_index.specs.declared.fault.IndexFileError.TheVariants as index
 use Rattle.git_staged.specs.declared.error.TreeFault.{TreeFault}
@@ -6,7 +8,7 @@ use Rattle.git_staged.specs.declared.error.TreeFault.TheVariants as trees
 use Rattle.status_compare.specs.declared.error.Error.{Error}
 use Rattle.status_compare.specs.declared.error.Error.TheVariants as errors
 use Rattle.git_status.specs.declared.failure.Failure.{Failure}
-use Rattle.git_status.specs.declared.failure.Failure.TheVariants.{Head, Index, Status, Memory}
+use Rattle.git_status.specs.declared.failure.Failure.TheVariants.{Attributes, Head, Index, Status, Memory}
 
 -- The failure for bytes that aren't an index file.
 abbrev pub failure_of_index : IndexFileError → Failure
@@ -28,6 +30,11 @@ failure_of_head (trees.NoTree id) = Head (trees.NoTree id)
 failure_of_head trees.NotAscending = Head trees.NotAscending
 failure_of_head trees.ManyItems = Head trees.ManyItems
 failure_of_head trees.TooDeep = Head trees.TooDeep
+
+-- The failure for attribute files.
+abbrev pub failure_of_attributes : AttributeFault → Failure
+failure_of_attributes attributes.Memory = Memory
+failure_of_attributes (attributes.Object path fault) = Attributes path fault
 
 -- The failure for an error of the status.
 abbrev pub failure_of_status : Error → Failure

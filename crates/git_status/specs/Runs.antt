@@ -1,5 +1,5 @@
 -- The output and the exit status of the command, over the bytes of an index file and a worktree.
-use Rattle.std.specs.Prelude.{◌≡◌, ◌==◌, ◌||◌, ◌⊎◌, ℕ, Bool, true, false, not, IsTrue, List, [], length, Option, Some, None, is_some, Result, Ok, Err, IfOk, All, ⊤}
+use Rattle.std.specs.Prelude.{◌≡◌, ◌==◌, ◌||◌, ◌⊎◌, ℕ, Bool, true, false, not, IsTrue, List, [], length, Option, Some, None, is_some, Result, Ok, Err, IfOk, All, ⊤, Global, Vec}
 use Rattle.std.specs.List.{list_any}
 use Rattle.std.specs.Result.{IsErrAnd}
 use Rattle.std.specs.Io.KnownBytes.{Appends}
@@ -9,6 +9,7 @@ use Rattle.git_attributes.specs.declared.line_ends.LineEnds.{LineEnds}
 use Rattle.git_index.specs.File.{IsFileOf}
 use Rattle.git_index.specs.Refusals.{EndsWithChecksum}
 use Rattle.git_index.specs.declared.fault.IndexFileError.TheVariants.{Checksum}
+use Rattle.git_objects.specs.declared.fault.ObjectFault.{ObjectFault}
 use Rattle.git_staged.specs.Staged.{MayStage}
 use Rattle.git_staged.specs.declared.error.TreeFault.{TreeFault}
 use Rattle.git_staged.specs.declared.letters.Letter.{Letter}
@@ -37,7 +38,7 @@ use Rattle.git_status.specs.Printing.{IsUnwritten}
 use Rattle.git_status.specs.declared.asked.Settings.{Settings}
 use Rattle.git_status.specs.declared.answer.Report.{Report}
 use Rattle.git_status.specs.declared.failure.Failure.{Failure}
-use Rattle.git_status.specs.declared.failure.Failure.TheVariants.{Head, Index, Interrupted, Memory}
+use Rattle.git_status.specs.declared.failure.Failure.TheVariants.{Attributes, Head, Index, Interrupted, Memory}
 
 -- How a worktree is compared with an index after line ends are converted, which attribute files may be found for an index, which
 -- staged changes, and the settings.
@@ -76,9 +77,14 @@ IsWrongChecksum kind bytes f = (f ≡ Index Checksum) × (EndsWithChecksum kind 
 abbrev pub IsHeadUnread : Failure → Type 0
 IsHeadUnread f = (fault : TreeFault) × (f ≡ Head fault)
 
--- Why the command ends before anything is printed: memory ran out, the index file's checksum is wrong, or HEAD can't be read.
+-- An attribute file that is only in the index can't be read.
+abbrev pub IsAttributesUnread : Failure → Type 0
+IsAttributesUnread f = (path : Vec ℕ Global) × (fault : ObjectFault) × (f ≡ Attributes path fault)
+
+-- Why the command ends before anything is printed: memory ran out, the index file's checksum is wrong, or HEAD or an attribute file
+-- can't be read.
 abbrev pub IsEarly : HashKind → List ℕ → Failure → Type 0
-IsEarly kind bytes f = (f ≡ Memory) ⊎ (IsWrongChecksum kind bytes f ⊎ IsHeadUnread f)
+IsEarly kind bytes f = (f ≡ Memory) ⊎ (IsWrongChecksum kind bytes f ⊎ (IsHeadUnread f ⊎ IsAttributesUnread f))
 
 -- Memory ran out, and nothing was printed.
 abbrev pub IsOutOfMemory : Option (List ℕ) → Failure → Option (List ℕ) → Type 0

@@ -16,7 +16,6 @@ use status_base::worktree::{
 use status_call::index_as_worktree::Options;
 use status_call::index_as_worktree::inputs::Ask;
 use status_index::{HashKind, Moment};
-use std::sync::atomic::AtomicBool;
 
 /// How an index file is read, and how the differences are found and printed.
 #[derive(Debug, Drop)]
@@ -48,12 +47,10 @@ pub struct Asked<'a, W, S, P, A, H> {
     pub submodules: S,
     /// The paths that are compared.
     pub paths: P,
-    /// The attribute files outside of the worktree, which say how git converts files too.
+    /// The attribute files that aren't in the worktree, which say how git converts files too.
     pub attributes: A,
     /// The commit that the index is compared with.
     pub head: &'a H,
-    /// Becomes true if git would read an attribute file that is only in the index. It isn't read here.
-    pub unread: &'a AtomicBool,
 }
 
 /// The question of a status, of any types.
@@ -73,7 +70,7 @@ impl<'a, W: Worktree, S: SubmoduleStatus, P: Pathspec, A: AttributeFiles, H: Fin
     ghost asking = { λ asked. record {
       query = λ filter. ⟦<Compared<'a, 'a, 'a, 'a, W, S, P> as Ask>⟧.query (asked_inputs asked filter);
       may_stage = H.may_stage asked.head.now;
-      are_files = λ index. AreFilesWith (AreFilesSeen (W.may_stat asked.worktree.now) (W.may_open asked.worktree.now) (folders_of (index_of index))) (A.are_files asked.attributes);
+      are_files = λ index. AreFilesWith (AreFilesSeen (W.may_stat asked.worktree.now) (W.may_open asked.worktree.now) (folders_of (index_of index))) (A.are_files asked.attributes (index_of index));
       may_return = record {
         stat = W.may_stat asked.worktree.now;
         opened = λ path _. W.may_open asked.worktree.now path;

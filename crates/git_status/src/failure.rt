@@ -1,12 +1,14 @@
 //! Why the command fails.
 
 ghost use Rattle.std.specs.Prelude.{◌≡◌};
-ghost use Rattle.git_status.specs.Failures.{failure_of_head, failure_of_index, failure_of_status};
+ghost use Rattle.git_status.specs.Failures.{failure_of_attributes, failure_of_head, failure_of_index, failure_of_status};
 ghost use Rattle.git_status.specs.declared.failure.Failure.TheVariants.{Memory};
 
 use crate::lines::Quoted;
 use bstr::BStr;
+use git_attributes::AttributeFault;
 use git_index::IndexFileError;
+use git_objects::ObjectFault;
 use git_staged::TreeFault;
 use status_call::index_as_worktree::Error;
 use std::alloc::AllocError;
@@ -24,6 +26,13 @@ pub enum Failure {
     Interrupted,
     /// The files of HEAD's commit can't be read.
     Head(TreeFault),
+    /// The object of an attribute file that is only in the index can't be read.
+    Attributes {
+        /// The file's path.
+        path: Vec<u8>,
+        /// Why it isn't read.
+        fault: ObjectFault,
+    },
     /// The output takes no more.
     Output(OutputError),
     /// Memory ran out.
@@ -92,6 +101,10 @@ impl fmt::Display for Failure {
             Failure::Status(error) => write!(f, "{error}"),
             Failure::Interrupted => f.write_str("interrupted"),
             Failure::Head(fault) => write!(f, "can't read the files of HEAD: {fault}"),
+            Failure::Attributes { path, fault } => {
+                let path = Quoted { path };
+                write!(f, "can't read {path} of the index: {fault}")
+            }
             Failure::Output(error) => write!(f, "{error}"),
             Failure::Memory => f.write_str("out of memory"),
         }
@@ -103,5 +116,16 @@ impl From<AllocError> for Failure {
 
     fn from(_error: AllocError) -> Failure {
         Failure::Memory
+    }
+}
+
+impl From<AttributeFault> for Failure {
+    ghost from_gives = { λ fault f. f ≡ failure_of_attributes fault };
+
+    fn from(fault: AttributeFault) -> Failure {
+        match fault {
+            AttributeFault::Object { path, fault } => Failure::Attributes { path, fault },
+            AttributeFault::Memory => Failure::Memory,
+        }
     }
 }

@@ -15,14 +15,13 @@ use crate::read::ReadIndex;
 use crate::refresh::Refreshed;
 use crate::status::{Computed, compute_both, filter_of};
 use git_attributes::{
-    AttributeFile, AttributeFiles, FolderSearch, attributes_of, find_attribute_files,
+    AttributeFault, AttributeFile, AttributeFiles, FolderSearch, attributes_of, find_attribute_files,
 };
 use git_index::IndexFileError;
 use git_staged::FindStaged;
 use status_base::worktree::{Pathspec, SubmoduleStatus, Worktree};
 use status_call::index_as_worktree::ApplyChange;
 use status_index::State;
-use std::alloc::AllocError;
 use std::io;
 use std::sync::Wait;
 use std::thread::Threads;
@@ -52,25 +51,25 @@ where
     /// Returns the attribute files that count for an index. A thread limit below 4 is kept: then no thread is started.
     ///
     /// # Errors
-    /// Out of memory.
+    /// An attribute file that is only in the index can't be read, or out of memory.
     fn attribute_files<R: AllocGlobal + Sync + Threads + Wait>(
         &self,
         rt: &R,
         index: &State,
-    ) -> Result<Vec<AttributeFile>, AllocError>
+    ) -> Result<Vec<AttributeFile>, AttributeFault>
         ensures { IfOk result (λ files. (⟦<Asked<'a, W, S, P, A, H> as Question>⟧.asking self.now).are_files index.now (map file_view files.items)) }
     {
-        let search = FolderSearch::new(rt.alloc(), self.worktree, index, self.unread);
+        let search = FolderSearch::new(rt.alloc(), self.worktree, index);
         let shares = allows_four(self.settings.options.thread_limit);
         let within = find_attribute_files(rt, &search, shares)?;
-        self.attributes.with_others(rt.alloc(), within)
+        self.attributes.with_others(rt.alloc(), index, within)
     }
 
     /// Prints the status of an index file that was read, with line ends converted by the attribute files. Returns what was
     /// found, with the changes that a refresh makes if they are wanted.
     ///
     /// # Errors
-    /// Memory runs out before the status, the file's checksum is wrong, or HEAD's files can't be read; or the status's error, after the lines before it
+    /// Memory runs out before the status, the file's checksum is wrong, or HEAD's files or an attribute file can't be read; or the status's error, after the lines before it
     /// were printed; or the output can't be written. If changes are wanted, memory may also run out after all lines were
     /// printed.
     pub(crate) fn print_index<R: AllocGlobal + Sync + Threads + Wait, O: io::Write>(

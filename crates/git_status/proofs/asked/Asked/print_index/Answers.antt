@@ -4,11 +4,11 @@ use Rattle.git_attributes.specs.Views.{attributes_view, file_view}
 use Rattle.status_call.specs.Counts.{skipped_of}
 use Rattle.status_call.specs.RecorderVisits.{visits_of}
 use Rattle.git_staged.specs.Staged.{staged_view}
-use Rattle.git_status.proofs.Founds.{found_run, headless_index, index_found, late_run, skipped_fits, unfound_index, unfound_run, wrong_index}
+use Rattle.git_status.proofs.Founds.{found_run, headless_index, index_found, late_run, skipped_fits, unattributed_index, unfound_index, unfound_run, wrong_index}
 use Rattle.git_status.proofs.asked.Asked.print_index.Goals as goal
 
 pub returns-in_err-files : goal.returns-in_err-files
-returns-in_err-files g c = unfound_index c.args.wanted _ c.args.read.now.bytes.now c.args.read.now.file.state _ c.from_residual.result c.from_residual.ensures.1
+returns-in_err-files g c = unattributed_index c.args.wanted _ c.args.read.now.bytes.now c.args.read.now.file.state _ _ c.from_residual.result c.from_residual.ensures.1
 
 pub returns-in_err-attributes : goal.returns-in_err-attributes
 returns-in_err-attributes g c = unfound_index c.args.wanted _ c.args.read.now.bytes.now c.args.read.now.file.state _ c.from_residual-in_err-attributes.result c.from_residual-in_err-attributes.ensures.1

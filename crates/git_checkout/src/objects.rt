@@ -1,0 +1,84 @@
+//! Objects that are only asked for if the worktree has no file of their content.
+
+use crate::head::{HeadCommit, store_of};
+use crate::refused::Refused;
+use git_objects::{Object, ObjectFault, ObjectKind, ReadObject};
+use git_repository::{MODULES, ModulesFile, Repository};
+use bstr::BStr;
+use status_index::{ObjectId, State};
+use std::os::unix::fs::FileExt;
+use std::rt::{Env, Files};
+
+/// The objects of a repository. Their store is opened for each one that is asked for.
+#[derive(Clone, Copy)]
+pub(crate) struct LazyObjects<'r, R> {
+    pub(crate) rt: &'r R,
+    pub(crate) repository: &'r Repository,
+}
+
+impl<R: AllocGlobal + Env + Files> ReadObject for LazyObjects<'_, R>
+where
+    R::File: FileExt,
+{
+    fn read(&self, id: ObjectId) -> Result<Object, ObjectFault> {
+        match store_of(self.rt, self.repository) {
+            Ok(store) => store.read(id),
+            Err(Refused::Memory) => Err(ObjectFault::Memory),
+            Err(Refused::Object(fault)) => Err(fault),
+            Err(_) => Err(ObjectFault::Elsewhere),
+        }
+    }
+}
+
+/// Returns the `.gitmodules` that counts: that of the worktree, or if it has none, the index's, or else that of HEAD's commit.
+///
+/// # Errors
+/// HEAD or an object can't be read, or out of memory.
+pub(crate) fn modules_of<R: AllocGlobal + Env + Files>(
+    rt: &R,
+    repository: &Repository,
+    index: &State,
+    head: &Option<HeadCommit<'_, R>>,
+) -> Result<ModulesFile, Refused>
+where
+    R::File: FileExt,
+{
+    let file = ModulesFile::read(rt, repository.top.as_str(), index)?;
+    let ModulesFile::Missing = file else {
+        return Ok(file);
+    };
+    let found = match (index.entries_at(BStr::new(MODULES.as_bytes())), head) {
+        ([entry, ..], _) => Some(entry.id),
+        ([], Some(head)) => head.item_at_top(MODULES.as_bytes())?,
+        ([], None) => head_alone(rt, repository)?.item_at_top(MODULES.as_bytes())?,
+    };
+    let Some(id) = found else {
+        return Ok(ModulesFile::Missing);
+    };
+    match (LazyObjects { rt, repository }).read(id) {
+        Ok(blob) if blob.kind == ObjectKind::Blob => {
+            Ok(ModulesFile::of(rt.alloc(), blob.bytes.as_slice())?)
+        }
+        Ok(_) | Err(ObjectFault::Missing { .. }) => Ok(ModulesFile::Missing),
+        Err(fault) => Err(Refused::Modules { fault }),
+    }
+}
+
+/// Reads HEAD's commit for a request that doesn't compare the index with it.
+///
+/// # Errors
+/// Those of `HeadCommit::read`, in other words if objects aren't read as git reads them.
+fn head_alone<'r, R: AllocGlobal + Env + Files>(
+    rt: &'r R,
+    repository: &Repository,
+) -> Result<HeadCommit<'r, R>, Refused>
+where
+    R::File: FileExt,
+{
+    match HeadCommit::read(rt, repository) {
+        Err(Refused::Objects { .. }) => Err(Refused::Modules {
+            fault: ObjectFault::Elsewhere,
+        }),
+        read => read,
+    }
+}
