@@ -1,16 +1,11 @@
 -- Assignments, the last one first.
-use Rattle.std.proofs.Common.{◌≡◌, ◌∙◌, ◌<◌, ◌≤◌, ◌-◌, ◌+◌, ℕ, zero, suc, Bool, true, cond, List, [], ◌∷◌, ◌++◌, length, map, drop, refl, sym, ap, arith}
-use Rattle.std.proofs.lemmas.List.{drop_all, drop_more}
+use Rattle.std.proofs.Common.{◌≡◌, ◌∙◌, ◌<◌, ◌≤◌, ◌-◌, ℕ, zero, suc, Bool, true, cond, List, [], ◌∷◌, ◌++◌, length, map, drop, refl, sym, ap, arith}
+use Rattle.std.proofs.lemmas.List.{drop_all}
 use Rattle.std.specs.List.{slice_index_or}
+use Rattle.git_patterns.proofs.Backwards.{last_of}
 use Rattle.git_attributes.specs.Assignments.{Given}
 use Rattle.git_attributes.specs.Lines.{Macro}
 use Rattle.git_attributes.specs.States.{assigned, is_known, unfolded}
-
--- The rest of a list from the element before `at`.
-pub last_of : {A : Type 0} (xs : List A) (at : ℕ) (d : A) → 0 < at → at ≤ length xs → drop (at - 1) xs ≡ slice_index_or xs (at - 1) d ∷ drop at xs
-last_of xs at d some inside =
-    let next : at - 1 + 1 ≡ at = omega (arith, some) in
-    drop_more xs (at - 1) d (omega (arith, some, inside)) ∙ ap (λ (k : ℕ). slice_index_or xs (at - 1) d ∷ drop k xs) next
 
 abbrev assign_by : List Macro → ℕ → Given → List Given → List Given
 assign_by macros depth given known = cond (is_known given.0 known) known (unfolded macros depth given (known ++ given ∷ []))

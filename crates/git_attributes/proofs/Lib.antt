@@ -5,12 +5,9 @@ mod FolderFronts
 mod FolderSights
 mod FoundFiles
 mod Giving
-mod Items
 mod KnownFiles
-mod Matching
 mod Leaving
 mod Lines
-mod Tables
 pub mod Sent
 mod SharedSearch
 mod StagedFiles

@@ -1,8 +1,8 @@
 -- The lines of a file, one after the other.
 use Rattle.std.proofs.Common.{◌≡◌, Bool, List, ℕ, length, Some, ap}
+use Rattle.git_patterns.proofs.Items.{all, all_more}
 use Rattle.git_attributes.specs.Files.{Said, line_step, with_any_line, with_lines}
 use Rattle.git_attributes.specs.Lines.{line_at}
-use Rattle.git_attributes.proofs.Items.{all, all_more}
 use Rattle.git_attributes.proofs.Leaving.{line_leaves}
 
 pub lines_more : (has_macros : Bool) (folder : List ℕ) (said : Said) (text line behind : List ℕ) → line_step text ≡ Some (line, behind)

@@ -10,14 +10,6 @@ use Rattle.git_attributes.specs.contracts.attributes.Attributes as attributes
 use Rattle.git_attributes.specs.contracts.line.Macro as macros
 use Rattle.git_attributes.specs.contracts.line.Rule as rule
 use Rattle.git_attributes.specs.contracts.line_ends.LineEnds as line_ends
-use Rattle.git_attributes.specs.contracts.pattern.Piece as piece
-use Rattle.git_attributes.specs.contracts.set.Item as item
-
-Item-sync : IsSync item.the_row
-Item-sync = search (sendable, crosses) depth 40
-
-Piece-sync : IsSync piece.the_row
-Piece-sync = search (Item-sync, sendable, crosses) depth 40
 
 module _ (κ : NamedLft) where
   Value-sync : IsSync (value.the_row κ)
@@ -27,7 +19,7 @@ module _ (κ : NamedLft) where
   Assignment-sync = search (Value-sync, sendable, crosses) depth 40
 
   Rule-sync : IsSync (rule.the_row κ)
-  Rule-sync = search (Piece-sync, Assignment-sync, sendable, crosses) depth 40
+  Rule-sync = search (Assignment-sync, sendable, crosses) depth 40
 
   Macro-sync : IsSync (macros.the_row κ)
   Macro-sync = search (Assignment-sync, sendable, crosses) depth 40

@@ -1,11 +1,11 @@
 -- What attribute files say.
 use Rattle.std.specs.Prelude.{ℕ, ◌+◌, ◌-◌, Bool, true, ◌==◌, List, [], ◌∷◌, ◌++◌, length, take, drop, slice_index, codes, Option, Some, None, if◌then◌else◌}
 use Rattle.std.specs.Str.{bytes_eq}
+use Rattle.git_patterns.specs.Items.{items_of}
+use Rattle.git_patterns.specs.Text.{first_at}
 use Rattle.git_attributes.specs.Assignments.{Given}
-use Rattle.git_attributes.specs.Items.{items_of}
 use Rattle.git_attributes.specs.Lines.{Line, Macro, MacroLine, Rule, RuleLine, line_at}
 use Rattle.git_attributes.specs.States.{states_by}
-use Rattle.git_attributes.specs.Words.{first_at}
 
 -- The bytes of an attribute file, the folder whose paths its patterns are for, and whether it may state macros.
 pub record File : Type 0 where

@@ -3,10 +3,11 @@ use Rattle.std.specs.Prelude.{ℕ, ◌-◌, ◌==◌, ◌&&◌, ◌||◌, not, n
 use Rattle.std.specs.List.{list_any}
 use Rattle.std.specs.Option.{option_and_then}
 use Rattle.std.specs.Str.{bytes_eq}
+use Rattle.git_patterns.specs.Patterns.{parts_of}
+use Rattle.git_patterns.specs.Text.{begins_with}
+use Rattle.git_patterns.specs.Wildmatch.{Part}
 use Rattle.git_attributes.specs.Assignments.{Given, assignments_of, is_name}
-use Rattle.git_attributes.specs.Patterns.{begins_with, parts_of}
 use Rattle.git_attributes.specs.Quoted.{unquoted}
-use Rattle.git_attributes.specs.Wildmatch.{Part}
 use Rattle.git_attributes.specs.Words.{before, skip_blanks, word_at}
 
 -- The paths that match a pattern get these states. The pattern is that of a file in this folder.

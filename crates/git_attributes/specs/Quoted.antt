@@ -1,8 +1,8 @@
 -- A pattern in double quotes, with the escapes of C.
 use Rattle.std.specs.Prelude.{ℕ, ◌+◌, ◌-◌, ◌*◌, ◌==◌, nat_lt, List, [], ◌∷◌, length, Option, Some, None, if◌then◌else◌}
 use Rattle.std.specs.Option.{option_and_then}
-use Rattle.git_attributes.specs.Items.{closed_by, items_of}
-use Rattle.git_attributes.specs.Sets.{is_between}
+use Rattle.git_patterns.specs.Items.{closed_by, items_of}
+use Rattle.git_patterns.specs.Sets.{is_between}
 
 abbrev pub octal_digit : ℕ → Option ℕ
 octal_digit b = if is_between 48 55 b then Some (b - 48) else None

@@ -3,9 +3,9 @@ use Rattle.std.specs.Prelude.{ℕ, ◌==◌, zero, suc, Bool, true, false, List,
 use Rattle.std.specs.List.{list_any}
 use Rattle.std.specs.Option.{option_or}
 use Rattle.std.specs.Str.{bytes_eq}
+use Rattle.git_patterns.specs.Wildmatch.{is_match}
 use Rattle.git_attributes.specs.Assignments.{Given, State, Set, Unspecified}
 use Rattle.git_attributes.specs.Lines.{Macro, Rule}
-use Rattle.git_attributes.specs.Wildmatch.{is_match}
 
 -- An attribute has a state.
 abbrev pub is_known : List ℕ → List Given → Bool

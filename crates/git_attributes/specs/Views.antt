@@ -1,7 +1,6 @@
 -- The code's types as the definitions have them.
 use Rattle.std.specs.Prelude.{map}
-use Rattle.git_attributes.specs.declared.pattern.Piece.{Piece}
-use Rattle.git_attributes.specs.declared.pattern.Piece.TheVariants.{Byte, Any as AnyPiece, Set as SetPiece, Name as NamePiece, Folders as FoldersPiece, Everything as EverythingPiece}
+use Rattle.git_patterns.specs.Views.{pattern_parts}
 use Rattle.git_attributes.specs.declared.assignment.Assignment.{Assignment}
 use Rattle.git_attributes.specs.declared.assignment.Value.{Value}
 use Rattle.git_attributes.specs.declared.assignment.Value.TheVariants.{Set as SetValue, Unset as UnsetValue, Unspecified as UnspecifiedValue, Text as TextValue}
@@ -16,16 +15,6 @@ use Rattle.git_attributes.specs.Files.{File, Said}
 use Rattle.git_attributes.specs.Assignments.{Given, State, Unset, Unspecified, Text}
 use Rattle.git_attributes.specs.Assignments as states
 use Rattle.git_attributes.specs.Lines.{Line, Macro, MacroLine, Rule, RuleLine}
-use Rattle.git_attributes.specs.Wildmatch.{Part, One, Any, Set, Name, Folders, Everything}
-
--- A piece of the code as a part of a pattern.
-abbrev pub part_of : Piece → Part
-part_of (Byte c) = One c
-part_of AnyPiece = Any
-part_of (SetPiece negated items) = Set negated items.items
-part_of NamePiece = Name
-part_of FoldersPiece = Folders
-part_of EverythingPiece = Everything
 
 -- A value of the code as the state of an attribute.
 abbrev pub state_of : Value → State
@@ -40,7 +29,7 @@ given_of a = (a.name.now, state_of a.value)
 
 -- A rule of the code as a rule of the definitions.
 abbrev pub rule_view : RuleType → Rule
-rule_view r = record { folder = r.folder.now; by_name = r.by_name; parts = map part_of r.pieces.items; given = map given_of r.given.items }
+rule_view r = record { folder = r.folder.now; by_name = r.by_name; parts = pattern_parts r.pattern; given = map given_of r.given.items }
 
 -- A macro of the code as a macro of the definitions.
 abbrev pub macro_view : MacroType → Macro

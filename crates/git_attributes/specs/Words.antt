@@ -1,13 +1,10 @@
 -- The parts of a line of an attributes file: words between blanks, and the text before a byte.
-use Rattle.std.specs.Prelude.{ℕ, ◌==◌, ◌||◌, Bool, List, [], ◌∷◌, length, take, drop, position, Option, Some, None, if◌then◌else◌}
+use Rattle.std.specs.Prelude.{ℕ, ◌==◌, ◌||◌, Bool, List, [], ◌∷◌, take, drop, position, Option, Some, None, if◌then◌else◌}
+use Rattle.git_patterns.specs.Text.{first_at, len_to}
 
 abbrev pub front_to : Option ℕ → List ℕ → List ℕ
 front_to None text = text
 front_to (Some at) text = take at text
-
--- The position of the first of these bytes.
-abbrev pub first_at : ℕ → List ℕ → Option ℕ
-first_at c text = position (λ b. b == c) text
 
 -- The text before the first of these bytes, or the whole text if it has none.
 abbrev pub before : ℕ → List ℕ → List ℕ
@@ -23,10 +20,6 @@ skip_blanks (b ∷ rest) = if is_blank b then skip_blanks rest else (b ∷ rest)
 
 abbrev pub blank_at : List ℕ → Option ℕ
 blank_at text = position is_blank text
-
-abbrev pub len_to : Option ℕ → List ℕ → ℕ
-len_to None text = length text
-len_to (Some at) text = at
 
 abbrev pub word_len : List ℕ → ℕ
 word_len text = len_to (blank_at text) text

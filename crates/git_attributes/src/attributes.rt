@@ -1,15 +1,14 @@
 //! Attribute files, and the states that they give to the attributes of a path.
 
 ghost use Rattle.std.specs.Prelude.{◌≡◌, [], IfOk, OnOk, map, option_map};
+ghost use Rattle.git_patterns.specs.Text.{first_at};
 ghost use Rattle.git_attributes.specs.Files.{line_step, split_line, states_of, with_file, with_line, without_cr, without_mark};
 ghost use Rattle.git_attributes.specs.States.{below, is_for, name_of};
-ghost use Rattle.git_attributes.specs.Words.{first_at};
 ghost use Rattle.git_attributes.specs.Views.{attributes_view, given_of, line_view, rule_view, source_view};
 
 use crate::assignment::{Assignment, give};
 use crate::line::{Line, Macro, Rule, line_of};
-use crate::table::matches;
-use crate::words::first_at;
+use git_patterns::text::first_at;
 use std::alloc::{AllocError, Global};
 
 /// An attribute file.
@@ -58,8 +57,8 @@ fn is_for(alloc: Global, rule: &Rule<'_>, path: &[u8]) -> Result<bool, AllocErro
     ensures { IfOk result (λ it. it ≡ is_for (rule_view rule.now) path.now) }
 {
     match below(rule.folder, path) {
-        Some(rest) if rule.by_name => matches(alloc, &rule.pieces, name_of(rest)),
-        Some(rest) => matches(alloc, &rule.pieces, rest),
+        Some(rest) if rule.by_name => rule.pattern.matches(alloc, name_of(rest)),
+        Some(rest) => rule.pattern.matches(alloc, rest),
         None => Ok(false),
     }
 }

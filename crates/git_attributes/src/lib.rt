@@ -2,10 +2,9 @@
 //!
 //! Begin at `line_ends`, the filter, which converts a file by its `normalization`, and compares that with git's rule.
 //! `attributes` has the states that `files` give to a path's attributes: it reads their lines (`line`), which have a
-//! pattern or a macro, and assignments (`assignment`), between blanks or in quotes (`words`). `pattern` reads a
-//! pattern's pieces and sets of bytes (`set`), and `table` compares paths with them. `laws` has the law of
-//! these comparisons. `worktree_files` finds the attribute files within a worktree, and `staged_files` those that are only in the
-//! index.
+//! pattern or a macro, and assignments (`assignment`), between blanks or in quotes (`words`). The patterns are those of the
+//! crate `git_patterns`. `worktree_files` finds the attribute files within a worktree, and `laws` has the law of these files.
+//! `staged_files` reads those that are only in the index, and `fault` is why one isn't read.
 #![tactic(auto)]
 
 pub mod assignment;
@@ -16,11 +15,8 @@ pub mod laws;
 mod line;
 pub mod line_ends;
 pub mod normalization;
-mod pattern;
-mod set;
 mod shared_search;
 pub mod staged_files;
-mod table;
 mod words;
 pub mod worktree_files;
 

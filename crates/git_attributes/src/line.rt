@@ -1,12 +1,14 @@
 //! Lines of attribute files.
 
-ghost use Rattle.std.specs.Prelude.{◌≡◌, IfOk, map, option_map};
+ghost use Rattle.std.specs.Prelude.{◌≡◌, IfOk, option_map};
+ghost use Rattle.git_patterns.specs.Views.{pattern_parts};
 ghost use Rattle.git_attributes.specs.Lines.{ends_in_slash, has_slash, line_at, macro_name, macro_of, pattern_of, plain_line_at, line_with_front, without_slash};
-ghost use Rattle.git_attributes.specs.Views.{line_view, part_of};
+ghost use Rattle.git_attributes.specs.Views.{line_view};
 
 use crate::assignment::{Assignment, assignments_of, is_name};
-use crate::pattern::{Piece, begins_with, pieces_of};
 use crate::words::{before, skip_blanks, unquoted, word_of};
+use git_patterns::Pattern;
+use git_patterns::text::begins_with;
 use std::alloc::{AllocError, Global};
 
 /// As git does, a line of so many bytes or more is left out.
@@ -19,8 +21,8 @@ pub(crate) struct Rule<'a> {
     pub(crate) folder: &'a [u8],
     /// Whether the pattern is compared with the last name of a path, and not with the path below the folder.
     pub(crate) by_name: bool,
-    /// The pattern's pieces.
-    pub(crate) pieces: Vec<Piece>,
+    /// The pattern.
+    pub(crate) pattern: Pattern,
     /// The assignments.
     pub(crate) given: Vec<Assignment<'a>>,
 }
@@ -65,18 +67,18 @@ fn without_slash(text: &[u8]) -> &[u8]
     }
 }
 
-/// Returns whether a pattern is compared with the last name of a path, and its pieces. None if it begins with `!`, which
+/// Returns whether a pattern is compared with the last name of a path, and the pattern. None if it begins with `!`, which
 /// git leaves out, or matches no file.
-fn pattern_of(alloc: Global, text: &[u8]) -> Result<Option<(bool, Vec<Piece>)>, AllocError>
-    ensures { IfOk result (λ found. option_map (λ x. (x.0, map part_of x.1.items)) found ≡ pattern_of text.now) }
+fn pattern_of(alloc: Global, text: &[u8]) -> Result<Option<(bool, Pattern)>, AllocError>
+    ensures { IfOk result (λ found. option_map (λ x. (x.0, pattern_parts x.1)) found ≡ pattern_of text.now) }
 {
     let text = before(0, text);
     if begins_with(b'!', text) || ends_in_slash(text) {
         return Ok(None);
     }
     let by_name = !has_slash(text);
-    match pieces_of(alloc, without_slash(text))? {
-        Some(pieces) => Ok(Some((by_name, pieces))),
+    match Pattern::of(alloc, without_slash(text))? {
+        Some(pattern) => Ok(Some((by_name, pattern))),
         None => Ok(None),
     }
 }
@@ -128,10 +130,10 @@ fn line_with_front<'a>(
         return Ok(None);
     };
     match pattern_of(alloc, front)? {
-        Some((by_name, pieces)) => Ok(Some(Line::Rule(Rule {
+        Some((by_name, pattern)) => Ok(Some(Line::Rule(Rule {
             folder,
             by_name,
-            pieces,
+            pattern,
             given,
         }))),
         None => Ok(None),

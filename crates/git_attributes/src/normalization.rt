@@ -7,7 +7,7 @@ ghost use Rattle.git_attributes.specs.Views.{given_of, state_of};
 ghost use Rattle.git_attributes.specs.Text.{begins_with_lf, eof_at_end, has_crlf, is_binary, is_nonprintable, is_printable, nonprintables, normalized};
 
 use crate::assignment::{Assignment, Value, state_in};
-use crate::words::is_word;
+use git_patterns::text::is_word;
 use std::alloc::AllocError;
 
 /// How git stores the line ends of a file.

@@ -1,25 +1,11 @@
 //! The words of a line, between blanks or in quotes.
 
 ghost use Rattle.std.specs.Prelude.{◌≡◌, option_map, IfOk};
-ghost use Rattle.std.specs.Str.{bytes_eq};
-ghost use Rattle.git_attributes.specs.Words.{before, blank_at, first_at, is_blank, skip_blanks, word_at, word_len};
+ghost use Rattle.git_attributes.specs.Words.{before, blank_at, is_blank, skip_blanks, word_at, word_len};
 ghost use Rattle.git_attributes.specs.Quoted.{escape_at, octal_at, octal_digit, quoted_at, unquoted};
 
+use git_patterns::text::first_at;
 use std::alloc::{AllocError, Global};
-
-/// Returns whether a text is this word.
-pub(crate) fn is_word(text: &[u8], word: &[u8]) -> bool
-    ensures { result ≡ bytes_eq text.now word.now }
-{
-    text == word
-}
-
-/// Returns the position of the first of these bytes.
-pub(crate) fn first_at(byte: u8, text: &[u8]) -> Option<usize>
-    ensures { result ≡ first_at byte text.now }
-{
-    text.iter().position(|it| *it == byte)
-}
 
 /// Returns what comes before the first of these bytes, or the whole text if it has none.
 pub(crate) fn before(byte: u8, text: &[u8]) -> &[u8]

@@ -16,8 +16,8 @@ ghost use Rattle.git_attributes.specs.WorktreeFiles.{AreFilesSeen, at_fault, fil
 ghost use Rattle.git_attributes.specs.FolderSteps.{AreAdded, IsFolderAdded, IsIn, IsNextFolder, IsOpenSeen, IsPathSeen, IsReadSeen, IsRefusalOf};
 
 use crate::files::{AttributeFile, append};
-use crate::words::first_at;
 use bstr::{BStr, BString};
+use git_patterns::text::first_at;
 use status_base::stack::{StackError, SymlinkCheck};
 use status_base::worktree::{Fault, Guard, GuardedWorktree, Metadata, NodeKind, Worktree};
 use status_index::{Entry, State, read_all};

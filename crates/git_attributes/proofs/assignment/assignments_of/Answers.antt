@@ -1,10 +1,10 @@
 use Rattle.std.proofs.Common.{◌≡◌, ◌∙◌, length, map, subst, sym, ap}
 use Rattle.std.proofs.lemmas.List.{map_push}
+use Rattle.git_patterns.specs.Items.{all_of}
+use Rattle.git_patterns.proofs.Items.{after, all, all_of_none, all_of_some, all_read, read_more, shorter}
 use Rattle.git_attributes.specs.Assignments.{assignment_at}
-use Rattle.git_attributes.specs.Items.{all_of}
 use Rattle.git_attributes.specs.Views.{given_of}
 use Rattle.git_attributes.specs.Words.{skip_blanks}
-use Rattle.git_attributes.proofs.Items.{after, all, all_of_none, all_of_some, all_read, read_more, shorter}
 use Rattle.git_attributes.proofs.Leaving.{assignment_leaves}
 use Rattle.git_attributes.proofs.assignment.assignments_of.Goals as goal
 

@@ -1,7 +1,7 @@
 use Rattle.std.proofs.Common.{◌≡◌, length, map}
+use Rattle.git_patterns.proofs.Items.{after, all}
 use Rattle.git_attributes.specs.Assignments.{assignment_at}
 use Rattle.git_attributes.specs.Views.{given_of}
-use Rattle.git_attributes.proofs.Items.{after, all}
 use Rattle.git_attributes.proofs.assignment.assignments_of.Given as goal
 
 abbrev pub invariant-words : goal.invariant-words

@@ -1,6 +1,6 @@
 use Rattle.std.proofs.Common.{◌≡◌, length, subst, sym}
+use Rattle.git_patterns.proofs.Items.{after, all, read_more}
 use Rattle.git_attributes.specs.Quoted.{quoted_at}
-use Rattle.git_attributes.proofs.Items.{after, all, read_more}
 use Rattle.git_attributes.proofs.Leaving.{quoted_leaves}
 use Rattle.git_attributes.proofs.words.unquoted.Goals as goal
 

@@ -1,6 +1,6 @@
 use Rattle.std.proofs.Common.{◌≡◌, length}
+use Rattle.git_patterns.proofs.Items.{after, all}
 use Rattle.git_attributes.specs.Quoted.{quoted_at}
-use Rattle.git_attributes.proofs.Items.{after, all}
 use Rattle.git_attributes.proofs.words.unquoted.Given as goal
 
 abbrev pub invariant-bytes : goal.invariant-bytes

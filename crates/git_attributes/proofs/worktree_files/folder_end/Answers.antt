@@ -1,6 +1,6 @@
 use Rattle.std.proofs.Common.{take, drop, sym, ◌∙◌, ap}
 use Rattle.std.proofs.lemmas.List.{take_rest}
-use Rattle.git_attributes.specs.Words.{first_at}
+use Rattle.git_patterns.specs.Text.{first_at}
 use Rattle.git_attributes.proofs.FolderFronts.{folders_none, next_some}
 use Rattle.git_attributes.proofs.worktree_files.folder_end.Goals as goal
 

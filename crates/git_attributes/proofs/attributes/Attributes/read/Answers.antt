@@ -1,7 +1,7 @@
 use Rattle.std.proofs.Common.{◌∙◌, length, sym, ap}
+use Rattle.git_patterns.proofs.Items.{all}
 use Rattle.git_attributes.specs.Files.{line_step, with_any_line, with_lines}
 use Rattle.git_attributes.specs.Views.{attributes_view}
-use Rattle.git_attributes.proofs.Items.{all}
 use Rattle.git_attributes.proofs.Lines.{lines_more}
 use Rattle.git_attributes.proofs.attributes.Attributes.read.Goals as goal
 

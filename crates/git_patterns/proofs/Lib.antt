@@ -1,0 +1,5 @@
+pub mod Backwards
+pub mod Items
+pub mod Leaving
+mod Matching
+mod Tables
