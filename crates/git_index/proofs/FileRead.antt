@@ -10,7 +10,7 @@ use Rattle.git_index.specs.declared.fault.IndexFileError.{IndexFileError}
 use Rattle.git_index.specs.declared.fault.IndexFileError.TheVariants as errors
 use Rattle.git_index.specs.RawEntry.{RawEntry, raw_bytes}
 use Rattle.git_index.specs.Reading.{◌>>=◌, checked, u32_at, extension_name_at, content_at, extension_at}
-use Rattle.git_index.specs.File.{header_bytes, is_optional, IsContent, IsChecksum}
+use Rattle.git_index.specs.File.{header_bytes, is_known, IsContent, IsChecksum}
 use Rattle.git_index.specs.Refusals.{IsHeaderRefusal, Spells, NoExtensionAt, HasHeader, HasEntries, IsEntriesRefusal, Applies, IsHeaded, Passes, IsFileRefusal, sum_of, content_of}
 use Rattle.git_index.specs.Counting.{IsEntriesError, IsExtensionError}
 use Rattle.git_index.proofs.Fields.{IsBytes}
@@ -55,11 +55,11 @@ content_fault bytes fault e =
 abbrev EitherFault : List ℕ → Fault → Type 0
 EitherFault bytes fault = (fault ≡ Truncated) ⊎ ((fault ≡ Required) × (4 ≤ length bytes))
 
-name_fault : (bytes : List ℕ) (fault : Fault) → checked is_optional Required extension_name_at bytes ≡ Err fault → EitherFault bytes fault
+name_fault : (bytes : List ℕ) (fault : Fault) → checked is_known Required extension_name_at bytes ≡ Err fault → EitherFault bytes fault
 unfolding extension_name_at
 name_fault bytes fault e =
     let name : Result (List ℕ × List ℕ) Fault = cond (ltb (length bytes) 4) (Err Truncated) (Ok (take 4 bytes, drop 4 bytes)) in
-    let k : List ℕ × List ℕ → Result (List ℕ × List ℕ) Fault = λ x. cond (is_optional x.0) (Ok x) (Err Required) in
+    let k : List ℕ × List ℕ → Result (List ℕ × List ℕ) Fault = λ x. cond (is_known x.0) (Ok x) (Err Required) in
     elim (bind_err name k fault e) [
       | inl h ↦ elim (chosen (ltb (length bytes) 4) (Err Truncated) (Ok (take 4 bytes, drop 4 bytes)) (Err fault) h) [
         | inl g ↦ inl (sym (fault_is Truncated fault g.1))
@@ -67,7 +67,7 @@ name_fault bytes fault e =
       ]
       | inr h ↦ elim (chosen (ltb (length bytes) 4) (Err Truncated) (Ok (take 4 bytes, drop 4 bytes)) (Ok h.0) h.1) [
         | inl g ↦ absurd (ok_never h.0 Truncated (sym g.1))
-        | inr g ↦ elim (chosen (is_optional h.0.0) (Ok h.0) (Err Required) (Err fault) h.2) [
+        | inr g ↦ elim (chosen (is_known h.0.0) (Ok h.0) (Err Required) (Err fault) h.2) [
           | inl m ↦ absurd (ok_never h.0 fault m.1)
           | inr m ↦ inr (sym (fault_is Required fault m.1), ltb-false (length bytes) 4 g.0)
         ]
@@ -78,7 +78,7 @@ extension_fault : (bytes : List ℕ) (fault : Fault) → extension_at bytes ≡ 
 unfolding extension_at
 extension_fault bytes fault e =
     let k : List ℕ × List ℕ → Result ((List ℕ × List ℕ) × List ℕ) Fault = λ a. content_at a.1 >>= λ b. Ok ((a.0, b.0), b.1) in
-    elim (bind_err (checked is_optional Required extension_name_at bytes) k fault e) [
+    elim (bind_err (checked is_known Required extension_name_at bytes) k fault e) [
       | inl h ↦ name_fault bytes fault h
       | inr h ↦ elim (bind_err (content_at h.0.1) (λ b. Ok ((h.0.0, b.0), b.1)) fault h.2) [
         | inl g ↦ inl (content_fault h.0.1 fault g)

@@ -6,7 +6,7 @@ use Rattle.git_index.specs.declared.fault.Fault.{Fault}
 use Rattle.git_index.specs.declared.fault.Fault.TheVariants.{Truncated, BadSignature, UnknownVersion, Required}
 use Rattle.git_index.specs.Numbers.{u32_bytes}
 use Rattle.git_index.specs.Reading.{checked, signature, u32_at, header_at, extension_name_at, content_at, extension_at}
-use Rattle.git_index.specs.File.{is_optional, is_version}
+use Rattle.git_index.specs.File.{is_known, is_version}
 use Rattle.git_index.proofs.Fields.{IsBytes, IsBytes-drop, bind_ok, guard_ok, guard_yes, ok_is, Takes, Takes-then, IsReader, front_reader, both_reader, u32_reader}
 
 -- A reader of what passes a test.
@@ -63,8 +63,8 @@ content_reader : IsReader (List ℕ) content_at (λ x. u32_bytes (length x) ++ x
 content_reader = record { takes = content_takes; again = content_again }
 
 abbrev pub PartsFit : List ℕ × List ℕ → Type 0
-PartsFit x = (length x.0 ≡ 4 × (is_optional x.0 ≡ true)) × (length x.1 < 2 ^ 32)
+PartsFit x = (length x.0 ≡ 4 × (is_known x.0 ≡ true)) × (length x.1 < 2 ^ 32)
 
 pub extension_reader : IsReader (List ℕ × List ℕ) extension_at (λ x. x.0 ++ (u32_bytes (length x.1) ++ x.1)) PartsFit
 unfolding extension_at
-extension_reader = both_reader (checked_reader is_optional Required name_reader) content_reader
+extension_reader = both_reader (checked_reader is_known Required name_reader) content_reader

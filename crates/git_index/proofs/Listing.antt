@@ -105,7 +105,7 @@ skipped_more bytes rest name content after s e =
         before = s.before ++ extension_bytes x;
         extensions = record {
           each = xs ++ x ∷ [];
-          fit = fit_push ExtensionFits xs x s.extensions.fit (record { name = t.1.0.0; optional = t.1.0.1; content = t.1.1 });
+          fit = fit_push ExtensionFits xs x s.extensions.fit (record { name = t.1.0.0; known = t.1.0.1; content = t.1.1 });
           parts = ap (λ (b : List ℕ). b ++ extension_bytes x) s.extensions.parts ∙ sym (flat_push extension_bytes xs x);
         };
         parts = s.parts ∙ ap (λ (r : List ℕ). s.before ++ r) t.0.parts ∙ sym (append_assoc s.before (extension_bytes x) after);
@@ -118,7 +118,7 @@ first_extension : (x : Extension) (xs : List Extension) (rest : List ℕ) → Ex
 unfolding extension_bytes
 first_extension x xs rest fits =
     let regrouped : flat_map extension_bytes (x ∷ xs) ++ rest ≡ extension_bytes x ++ (flat_map extension_bytes xs ++ rest) = ap (λ (t : List ℕ). t ++ rest) (flat_map-cons extension_bytes x xs) ∙ append_assoc (extension_bytes x) (flat_map extension_bytes xs) rest in
-    ap extension_at regrouped ∙ extension_reader.again (parts_of x) (flat_map extension_bytes xs ++ rest) ((fits.name, fits.optional), fits.content)
+    ap extension_at regrouped ∙ extension_reader.again (parts_of x) (flat_map extension_bytes xs ++ rest) ((fits.name, fits.known), fits.content)
 
 abbrev GotParts : Type 0
 GotParts = (List ℕ × List ℕ) × List ℕ

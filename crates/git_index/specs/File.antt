@@ -1,6 +1,7 @@
 -- The bytes of an index file: a header, the entries, extensions and a checksum (gitformat-index).
 use Rattle.std.specs.Prelude.{◌≡◌, ℕ, ◌^◌, ◌<◌, ◌⊎◌, ◌||◌, ◌==◌, List, [], ◌++◌, length, replicate, codes, Bool, true, nat_le, ◌&&◌, slice_index}
 use Rattle.std.specs.List.{flat_map, AllByRecursion}
+use Rattle.std.specs.Str.{bytes_eq}
 use Rattle.status_index.specs.declared.id.HashKind.{HashKind}
 use Rattle.status_index.specs.BlobId.{id_bytes, digest_id}
 use Rattle.status_index.specs.Entries.{IndexEntry}
@@ -20,12 +21,16 @@ extension_bytes x = x.name ++ (u32_bytes (length x.content) ++ x.content)
 abbrev pub is_optional : List ℕ → Bool
 is_optional name = nat_le 65 (slice_index name 0) && nat_le (slice_index name 0) 90
 
+-- Of those that have to be known, `sdir` is: it says that entries may be folders, those of a sparse index.
+abbrev pub is_known : List ℕ → Bool
+is_known name = is_optional name || bytes_eq name (codes "sdir")
+
 pub record ExtensionFits (x : Extension) : Type 0 where
   pub name : length x.name ≡ 4
-  pub optional : is_optional x.name ≡ true
+  pub known : is_known x.name ≡ true
   pub content : length x.content < 2 ^ 32
 
--- Optional extensions, one after the other.
+-- Extensions that are known or may be skipped, one after the other.
 pub record AreExtensions (bytes : List ℕ) : Type 0 where
   pub each : List Extension
   pub fit : AllByRecursion ExtensionFits each

@@ -13,7 +13,7 @@ use Rattle.git_index.specs.declared.fault.Fault.{Fault}
 use Rattle.git_index.specs.declared.fault.Fault.TheVariants.{Truncated, BadSignature, UnknownVersion, BadMode, BadFlags, BadPadding, LongStrip, Required}
 use Rattle.git_index.specs.Numbers.{two_bytes, three_bytes, four_bytes}
 use Rattle.git_index.specs.RawEntry.{RawEntry, id_len, padding_len}
-use Rattle.git_index.specs.File.{is_optional, is_version}
+use Rattle.git_index.specs.File.{is_known, is_version}
 
 infixl 10 ◌>>=◌
 abbrev pub ◌>>=◌ : {A B : Type 0} → Result A Fault → (A → Result B Fault) → Result B Fault
@@ -183,4 +183,4 @@ content_at bytes = do
   if nat_lt (length len.1) len.0 then Err Truncated else Ok (take len.0 len.1, drop len.0 len.1)
 
 unfoldable pub extension_at : List ℕ → Result ((List ℕ × List ℕ) × List ℕ) Fault
-extension_at = both (checked is_optional Required extension_name_at) content_at
+extension_at = both (checked is_known Required extension_name_at) content_at

@@ -61,7 +61,7 @@ pub enum IndexFileError {
         /// The offset in the file at which the extension begins.
         at: usize,
     },
-    /// An extension that has to be known isn't, such as `link` of a split index or `sdir` of a sparse one.
+    /// An extension that has to be known isn't, such as `link` of a split index.
     #[error("the required extension {} isn't known", BStr::new(name))]
     Required {
         /// The extension's name.

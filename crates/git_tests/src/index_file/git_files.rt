@@ -22,7 +22,8 @@
 //!   with `y`.
 
 use crate::index_file::git_bytes::{
-    ASSUMED, CONFLICT, EMPTY, EMPTY_EXTENSIONS, OFFSET_TABLES, OFFSETS, SHA256, TREE,
+    ASSUMED, CONFLICT, EMPTY, EMPTY_EXTENSIONS, OFFSET_TABLES, OFFSETS, SHA256, SPARSE,
+    SPARSE_EXTENSIONS, TREE,
     TREE_EXTENSIONS, VERSION_2, VERSION_3, VERSION_4,
 };
 use status_index::HashKind;
@@ -33,7 +34,7 @@ pub(super) struct GitFile {
     pub(super) kind: HashKind,
     pub(super) version: u32,
     pub(super) bytes: &'static [u8],
-    /// What `git ls-files --stage --debug` prints.
+    /// What `git ls-files --stage --debug --sparse` prints.
     pub(super) listing: &'static str,
     /// The bytes after the entries, before the checksum.
     pub(super) extensions: &'static [u8],
@@ -165,7 +166,22 @@ const OFFSETS_LISTING: &str = "\
   size: 4\tflags: 0
 ";
 
-pub(super) const GIT_FILES: [GitFile; 9] = [
+const SPARSE_LISTING: &str = "\
+100644 5626abf0f72e58d7a153368ba57db4c673c0e171 0\ta
+  ctime: 1795821250:926428726
+  mtime: 1795821250:926428726
+  dev: 65024\tino: 11134893
+  uid: 0\tgid: 0
+  size: 4\tflags: 0
+040000 0d2be3d01ab5e5b91da57193a88ef3b06f5c1304 0\td/
+  ctime: 0:0
+  mtime: 0:0
+  dev: 0\tino: 0
+  uid: 0\tgid: 0
+  size: 0\tflags: 40004000
+";
+
+pub(super) const GIT_FILES: [GitFile; 10] = [
     GitFile {
         name: "version 2",
         kind: HashKind::Sha1,
@@ -237,5 +253,13 @@ pub(super) const GIT_FILES: [GitFile; 9] = [
         bytes: OFFSETS,
         listing: OFFSETS_LISTING,
         extensions: OFFSET_TABLES,
+    },
+    GitFile {
+        name: "sparse",
+        kind: HashKind::Sha1,
+        version: 3,
+        bytes: SPARSE,
+        listing: SPARSE_LISTING,
+        extensions: SPARSE_EXTENSIONS,
     },
 ];

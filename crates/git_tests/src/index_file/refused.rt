@@ -1,7 +1,7 @@
 //! Files that are refused, and the texts of errors.
 
 use crate::index_file::broken::{changed, content, refused, unchecked};
-use crate::index_file::git_bytes::{SHA256, SPARSE, SPLIT, TREE};
+use crate::index_file::git_bytes::{SHA256, SPLIT, TREE};
 use git_index::{Fault, IndexFileError};
 use status_index::{HashKind, IndexError};
 use std::alloc::{AllocError, Global};
@@ -16,12 +16,6 @@ fn files_of_other_forms_are_refused(rt: HostRuntime) {
             HashKind::Sha1,
             SPLIT,
             IndexFileError::Required { name: *b"link" },
-        ),
-        (
-            "sparse",
-            HashKind::Sha1,
-            SPARSE,
-            IndexFileError::Required { name: *b"sdir" },
         ),
         (
             "SHA-256 read as SHA-1",
