@@ -101,7 +101,7 @@ impl<O: ReadObject, P: Pathspec> FindStaged for Head<'_, O, P> {
 /// HEAD's.
 ///
 /// # Errors
-/// Those of `read_tree`.
+/// Those of `read_beside`.
 fn files_beside<O: ReadObject>(
     alloc: Global,
     objects: &O,

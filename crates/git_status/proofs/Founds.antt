@@ -52,6 +52,7 @@ head_early kind bytes trees.Memory = inl refl
 head_early kind bytes (trees.Object id fault) = inr (inr (trees.Object id fault, refl))
 head_early kind bytes (trees.NoTree id) = inr (inr (trees.NoTree id, refl))
 head_early kind bytes trees.NotAscending = inr (inr (trees.NotAscending, refl))
+head_early kind bytes trees.MixedHash = inr (inr (trees.MixedHash, refl))
 head_early kind bytes trees.ManyItems = inr (inr (trees.ManyItems, refl))
 head_early kind bytes trees.TooDeep = inr (inr (trees.TooDeep, refl))
 
