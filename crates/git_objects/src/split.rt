@@ -2,6 +2,7 @@
 
 ghost use Rattle.std.specs.Prelude.{◌≡◌, IfSome, ◌∷◌, ◌++◌, position, take, drop, length};
 ghost use Rattle.status_index.specs.BlobId.{id_bytes, id_kind};
+ghost use Rattle.git_objects.specs.Contents.{id_len};
 ghost use Rattle.git_objects.specs.Splits.{IsSplitAt, is_byte};
 
 use status_index::{HashKind, ObjectId};
@@ -24,7 +25,9 @@ fn position_of(bytes: &[u8], value: u8) -> Option<usize>
 }
 
 /// Returns the number of bytes of an id.
-pub(crate) fn id_len(hash: HashKind) -> usize {
+pub(crate) fn id_len(hash: HashKind) -> usize
+    ensures { result ≡ id_len hash }
+{
     match hash {
         HashKind::Sha1 => 20,
         HashKind::Sha256 => 32,
@@ -35,6 +38,7 @@ pub(crate) fn id_len(hash: HashKind) -> usize {
 pub(crate) fn id_of_bytes(hash: HashKind, bytes: &[u8]) -> Option<ObjectId>
     ensures bytes { IfSome result (λ id. id_bytes id ≡ bytes.now) }
     ensures kind { IfSome result (λ id. id_kind id ≡ hash) }
+    ensures len { IfSome result (λ id. length (id_bytes id) ≡ id_len hash) }
 {
     match hash {
         HashKind::Sha1 => match <[u8; 20]>::try_from(bytes) {

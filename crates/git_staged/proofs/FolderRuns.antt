@@ -1,7 +1,7 @@
 -- The entries of a known folder.
-use Rattle.std.proofs.Common.{◌≡◌, ◌≤◌, ◌<◌, ℕ, zero, suc, Bool, true, false, inl, inr, ◌+◌, ◌-◌, false, List, [], ◌∷◌, ◌++◌, length, take, drop, map, get_or, All, Bor, IfSome, MatchOption, Option, None, Some, ◌⊎◌, refl, sym, ◌∙◌, ap, subst, arith}
+use Rattle.std.proofs.Common.{◌≡◌, ◌≤◌, ◌<◌, ℕ, zero, suc, Bool, true, false, inl, inr, ◌+◌, ◌-◌, false, List, [], ◌∷◌, ◌++◌, length, take, drop, map, get_or, All, Bor, IfSome, MatchOption, Option, None, Some, ◌⊎◌, refl, sym, ◌∙◌, ap, subst, arith, append_assoc}
 use Rattle.std.specs.List.{slice_index_or, slice_range, AllByRecursion}
-use Rattle.std.proofs.lemmas.List.{drop-take, drop-map, take-map, take-append-drop, length-append, length-take-le, get_or-take, get_or_default, length-map}
+use Rattle.std.proofs.lemmas.List.{append-nil, drop-take, drop-map, take-map, take-append-drop, length-append, length-take-le, get_or-take, get_or_default, length-map}
 use Rattle.std.proofs.Math.Seq.{take-append_seam, drop-append_seam, get_or-append_seam}
 use Rattle.std.proofs.Math.ListN.{get_or-map}
 use Rattle.status_index.specs.declared.id.ObjectId.{ObjectId}
@@ -15,12 +15,11 @@ use Rattle.status_index.specs.BlobId.{id_kind}
 use Rattle.status_index.specs.Entries.{IndexEntry, index_entry, path_in}
 use Rattle.status_index.specs.States.{backing_of, entries_of, index_of}
 use Rattle.git_staged.specs.declared.known.KnownFolders.{KnownFolders}
-use Rattle.git_staged.specs.Staged.{IsWritten, below}
+use Rattle.git_staged.specs.Staged.{IsWritten}
 use Rattle.git_staged.specs.TreeFiles.{HasFiles, IsItem, ItemOf, Known, Part, is_folder, nothing_known, tree_mode}
-use Rattle.git_staged.proofs.Copies.{all_plain, copies_make, inside_copies, placed_back}
 use Rattle.git_staged.specs.declared.builder.Folder.{Folder}
 use Rattle.git_staged.specs.Folders.{FrontOf, IsBelow, IsFolder, IsKnown, IsRun, copies, inside}
-use Rattle.git_staged.specs.Trees.{Items, no_items, index_tree_id, tree_id_of}
+use Rattle.git_staged.specs.Trees.{Items, index_tree_id, tree_id_of}
 
 run_lengths : (es : List IndexEntry) (path : List ℕ) (first end : ℕ) (items : Items) (r : IsRun es path first end items) → end ≤ length es → end ≡ first + length r.run
 run_lengths es path first end items r within = omega (arith, length-take-le end es within, ap length r.split, length-append r.before r.run, r.number)
@@ -100,37 +99,48 @@ kept_kind Sha1 items = refl
 kept_kind Sha256 items = refl
 
 -- A folder whose id was computed is made of its files.
-pub known_written : (k : KnownFolders) (kind : HashKind) → All (IsFolder kind (index_of k.index.now)) k.folders.now → (id : ObjectId) (path : List ℕ) (files : List IndexEntry) → IsKnown k id path files → IsWritten id path files
+pub known_written : (k : KnownFolders) (kind : HashKind) → All (IsFolder kind (index_of k.index.now)) k.folders.now → (id : ObjectId) (path : List ℕ) (files : List IndexEntry) → IsKnown k id path files → IsWritten (index_of k.index.now) id path files
 known_written k kind all id path files known =
     let es : List IndexEntry = index_of k.index.now in
     let f : Folder = known.folder in
     let fo : IsFolder kind es f = subst (IsFolder kind es) (known.listed f) (all known.number f known.within) in
     let here : fo.path ≡ path = first_path es fo.path f.first f.end fo.items fo.run fo.within path (known.front.0 ∙ sym fo.len, known.front.1) in
-    let run : List IndexEntry = fo.run.run in
-    let are : files ≡ copies known.flags run = known.are ∙ ap (copies known.flags) (sym (run_part es fo.path f.first f.end fo.items fo.run fo.within)) in
-    let n : ℕ = length fo.path in
-    let made : IsWritten f.id fo.path files = record {
-      inner = map (inside n) (copies known.flags run);
-      whole = are ∙ placed_back fo.path known.flags run fo.run.below;
-      plain = subst (All (λ (e : IndexEntry). e.flags.0 ≡ 0)) (sym (inside_copies n known.flags run)) (all_plain known.flags (map (inside n) run) known.plain);
-      makes = ap (index_tree_id (id_kind f.id)) (inside_copies n known.flags run)
-          ∙ (ap (tree_id_of (id_kind f.id)) (copies_make known.flags (map (inside n) run) no_items known.plain ∙ fo.run.makes)
-          ∙ (ap (λ (h : HashKind). tree_id_of h fo.items) (ap id_kind fo.id ∙ kept_kind kind fo.items) ∙ sym fo.id));
+    let after : List IndexEntry = drop f.end es in
+    let made : IsWritten es f.id fo.path files = record {
+      before = fo.run.before;
+      run = fo.run.run;
+      after = after;
+      split = sym (take-append-drop f.end es) ∙ (ap (λ (l : List IndexEntry). l ++ after) fo.run.split ∙ append_assoc fo.run.before fo.run.run after);
+      below = fo.run.below;
+      flags = known.flags;
+      plain = known.plain;
+      entries = known.are ∙ ap (copies known.flags) (sym (run_part es fo.path f.first f.end fo.items fo.run fo.within));
+      makes = ap (tree_id_of (id_kind f.id)) fo.run.makes ∙ (ap (λ (h : HashKind). tree_id_of h fo.items) (ap id_kind fo.id ∙ kept_kind kind fo.items) ∙ sym fo.id);
     } in
-    subst (λ (p : List ℕ). IsWritten id p files) here (subst (λ (i : ObjectId). IsWritten i fo.path files) known.id_is made)
+    subst (λ (p : List ℕ). IsWritten es id p files) here (subst (λ (i : ObjectId). IsWritten es i fo.path files) known.id_is made)
+
+-- Inside of the top, an entry is as it is.
+pub inside_top : (es : List IndexEntry) → map (inside 0) es ≡ es
+inside_top [] = refl
+inside_top (e ∷ es) = ap (λ (l : List IndexEntry). e ∷ l) (inside_top es)
+
+pub below_top : (es : List IndexEntry) → AllByRecursion (IsBelow []) es
+below_top [] = tt
+below_top (e ∷ es) = (λ staged. (e.path, refl), below_top es)
 
 -- An index that makes a tree has its files.
-pub index_written : (kind : HashKind) (id : ObjectId) (es : List IndexEntry) → id_kind id ≡ kind → index_tree_id kind es ≡ id → IsWritten id [] (copies (record { 0 = 0 }) es)
-index_written kind id es same makes = record {
-  inner = copies (record { 0 = 0 }) es;
-  whole = sym (map_same (copies (record { 0 = 0 }) es));
-  plain = all_plain (record { 0 = 0 }) es refl;
-  makes = ap (tree_id_of (id_kind id)) (copies_make (record { 0 = 0 }) es no_items refl) ∙ (ap (λ (h : HashKind). index_tree_id h es) same ∙ makes);
+abbrev pub index_written : (kind : HashKind) (flags : Flags) (id : ObjectId) (es : List IndexEntry) → id_kind id ≡ kind → flags.0 ≡ 0 → index_tree_id kind es ≡ id → IsWritten es id [] (copies flags es)
+index_written kind flags id es same plain makes = record {
+  before = [];
+  run = es;
+  after = [];
+  split = sym (append-nil es);
+  below = below_top es;
+  flags = flags;
+  plain = plain;
+  entries = refl;
+  makes = ap (index_tree_id (id_kind id)) (inside_top es) ∙ (ap (λ (h : HashKind). index_tree_id h es) same ∙ makes);
 }
-  where
-    map_same : (es : List IndexEntry) → map (below []) es ≡ es
-    map_same [] = refl
-    map_same (e ∷ es) = ap (λ (l : List IndexEntry). e ∷ l) (map_same es)
 
 -- No folder is known if there is none.
 pub never_known : (k : KnownFolders) → length k.folders.now ≡ 0 → (id : ObjectId) (path : List ℕ) (files : List IndexEntry) → IsKnown k id path files → nothing_known id path files

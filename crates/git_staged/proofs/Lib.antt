@@ -6,6 +6,5 @@ pub mod Changes
 pub mod Folders
 pub mod Ordered
 pub mod Merges
-pub mod Copies
 pub mod FolderRuns
 pub mod Unstaged

@@ -1,14 +1,16 @@
 -- Staged changes: the paths at which an index differs from HEAD's commit, with git's letters, in the order of paths.
-use Rattle.std.specs.Prelude.{◌≡◌, ℕ, Bool, List, [], ◌∷◌, ◌++◌, Option, Some, None, map, All}
+use Rattle.std.specs.Prelude.{◌≡◌, ℕ, Bool, List, [], ◌∷◌, ◌++◌, length, Option, Some, None, map}
 use Rattle.std.specs.Cmp.Lexicographic.{slice_cmp}
-use Rattle.std.specs.List.{filter, list_any}
+use Rattle.std.specs.List.{filter, list_any, AllByRecursion}
 use Rattle.std.specs.List.Sorted.{IsPermutation, IsSortedByKey}
 use Rattle.std.specs.Ordering.{nat_cmp}
 use Rattle.status_index.specs.declared.id.ObjectId.{ObjectId}
+use Rattle.status_index.specs.declared.entry.Flags.{Flags}
 use Rattle.status_index.specs.BlobId.{id_kind}
 use Rattle.status_index.specs.Entries.{IndexEntry}
 use Rattle.status_index.specs.Mode.{is_submodule}
 use Rattle.status_index.specs.Stretch.{is_at}
+use Rattle.git_staged.specs.Folders.{IsBelow, copies, inside}
 use Rattle.git_staged.specs.Letters.{changes, deletions}
 use Rattle.git_staged.specs.TreeFiles.{HasFiles}
 use Rattle.git_staged.specs.Trees.{index_tree_id}
@@ -41,22 +43,24 @@ pub record AreStaged (included : List ℕ → Bool → Bool) (head index : List 
   pub all : IsPermutation (filter (is_selected included head index) (changes head index ++ deletions index head)) found
   pub order : IsSortedByKey (λ change. change.0) (slice_cmp nat_cmp) found
 
--- An entry of a folder's own tree, by its whole path.
-abbrev pub below : List ℕ → IndexEntry → IndexEntry
-below path e = record e { path = path ++ e.path }
+-- `git write-tree` makes the tree of this id of some entries of an index in a row, by their paths in the folder of this path.
+-- These are its files.
+pub record IsWritten (index : List IndexEntry) (id : ObjectId) (path : List ℕ) (es : List IndexEntry) : Type 0 where
+  pub before : List IndexEntry
+  pub run : List IndexEntry
+  pub after : List IndexEntry
+  pub split : index ≡ before ++ (run ++ after)
+  pub below : AllByRecursion (IsBelow path) run
+  pub flags : Flags
+  pub plain : flags.0 ≡ 0
+  pub entries : es ≡ copies flags run
+  pub makes : index_tree_id (id_kind id) (map (inside (length path)) run) ≡ id
 
--- `git write-tree` makes the tree of this id of these entries, by their paths in its folder.
-pub record IsWritten (id : ObjectId) (path : List ℕ) (es : List IndexEntry) : Type 0 where
-  pub inner : List IndexEntry
-  pub whole : es ≡ map (below path) inner
-  pub plain : All (λ e. e.flags.0 ≡ 0) inner
-  pub makes : index_tree_id (id_kind id) inner ≡ id
-
--- The files of HEAD's tree. That of a folder is read, or made of its files. A branch without a commit has none.
-abbrev pub AreHeadFiles : Option ObjectId → List IndexEntry → Type 0
-AreHeadFiles None files = files ≡ []
-AreHeadFiles (Some tree) files = (depth : ℕ) × HasFiles IsWritten depth tree [] files
+-- The files of HEAD's tree. That of a folder is read, or made of entries of an index. A branch without a commit has none.
+abbrev pub AreHeadFiles : List IndexEntry → Option ObjectId → List IndexEntry → Type 0
+AreHeadFiles index None files = files ≡ []
+AreHeadFiles index (Some tree) files = (depth : ℕ) × HasFiles (IsWritten index) depth tree [] files
 
 -- The staged changes of an index that is compared with HEAD's tree: how it differs from the tree's files.
 abbrev pub IsStagedBeside : Option ObjectId → (List ℕ → Bool → Bool) → List IndexEntry → List (List ℕ × Letter) → Type 0
-IsStagedBeside tree included index found = (files : List IndexEntry) × AreHeadFiles tree files × AreStaged included files index found
+IsStagedBeside tree included index found = (files : List IndexEntry) × AreHeadFiles index tree files × AreStaged included files index found

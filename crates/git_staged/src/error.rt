@@ -47,6 +47,9 @@ pub enum TreeFault {
     /// The items of a tree aren't in order.
     #[error("the items of a tree aren't in order")]
     NotAscending,
+    /// Files of the index were taken for those of a folder, and their ids are of another kind than those of the tree.
+    #[error("the ids of the index are of another kind than those of the tree")]
+    MixedHash,
     /// The tree has more than 8,388,608 files and folders.
     #[error("the tree has more than 8,388,608 files and folders")]
     ManyItems,

@@ -15,7 +15,7 @@ use git_objects::{FirstItem, ObjectFault, ObjectKind, ReadObject, TreeItem};
 use status_index::{Flags, IndexError, Mode, Moment, ObjectId, Stat, State};
 use std::alloc::Global;
 
-/// How many folders may be within each other, as in newer versions of git (`core.maxTreeDepth`).
+/// How many folders may be within each other below the top, as in newer versions of git (`core.maxTreeDepth`).
 const MOST_FOLDERS: usize = 2048;
 
 /// The most files and folders of a tree. Its folders may be equal, so that few bytes make many.
@@ -54,7 +54,7 @@ pub fn read_tree<O: ReadObject>(
 /// Returns the files of a tree as an index. A folder isn't read if its files are known.
 ///
 /// # Errors
-/// Those of `read_tree`.
+/// Those of `read_tree`, or the known files have ids of another kind.
 pub(crate) fn read_beside<O: ReadObject>(
     alloc: Global,
     objects: &O,
@@ -72,7 +72,7 @@ pub(crate) fn read_beside<O: ReadObject>(
     match add_folder(
         objects,
         folders,
-        MOST_FOLDERS,
+        MOST_FOLDERS + 1,
         tree,
         &mut progress,
         &mut path,
@@ -86,7 +86,7 @@ pub(crate) fn read_beside<O: ReadObject>(
 /// Adds the files of a folder to others. `path` is that of the folder, with a slash at its end, or nothing for the top.
 ///
 /// # Errors
-/// Those of `read_tree`. Then the path is another one.
+/// Those of `read_beside`. Then the path is another one.
 #[cycle(folders)]
 fn add_folder<O: ReadObject>(
     objects: &O,
@@ -139,7 +139,7 @@ fn add_folder<O: ReadObject>(
 /// Adds the files of an item of a folder to others: it is a file, or a folder of files.
 ///
 /// # Errors
-/// Those of `read_tree`. Then the path is another one.
+/// Those of `read_beside`. Then the path is another one.
 #[cycle(folders)]
 fn add_item<O: ReadObject>(
     objects: &O,
@@ -176,17 +176,17 @@ fn add_item<O: ReadObject>(
 /// Adds a file without a stat to others.
 ///
 /// # Errors
-/// It isn't after the others in order, or out of memory.
+/// Those of `push_file`.
 fn add_file(files: &mut State, path: &[u8], mode: Mode, id: ObjectId) -> Result<(), TreeFault>
     ensures { OnOk result ((e : IndexEntry) × (index_of files.new ≡ index_of files.old ++ e ∷ []) × IsFile path.now mode id e) }
 {
     push_file(files, Stat::default(), id, Flags::empty(), mode, path)
 }
 
-/// Adds an entry to others.
+/// Adds an entry to others. No path is empty: each name of a tree has a byte, and each path of an index.
 ///
 /// # Errors
-/// It isn't after the others in order, or out of memory.
+/// It isn't after the others in order, its id is of another kind, or out of memory.
 pub(crate) fn push_file(
     files: &mut State,
     stat: Stat,
@@ -200,7 +200,10 @@ pub(crate) fn push_file(
     match files.push_entry(stat, id, flags, mode, BStr::new(path)) {
         Ok(()) => Ok(()),
         Err(IndexError::Memory) => Err(TreeFault::Memory),
-        Err(_refused) => Err(TreeFault::NotAscending),
+        Err(IndexError::MixedHash { .. }) => Err(TreeFault::MixedHash),
+        Err(IndexError::NotAscending { .. } | IndexError::EmptyPath { .. }) => {
+            Err(TreeFault::NotAscending)
+        }
     }
 }
 

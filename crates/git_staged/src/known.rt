@@ -76,7 +76,7 @@ pub(crate) fn put_in_order(folders: &mut Vec<Folder>) -> Result<(), AllocError>
 /// Adds the files that some entries of an index are. An entry of `git add -N` is none.
 ///
 /// # Errors
-/// They aren't after the others in order, or out of memory.
+/// They aren't after the others in order, their ids are of another kind, or out of memory.
 pub(crate) fn add_copies(
     files: &mut State,
     backing: &PathStorage,

@@ -14,6 +14,8 @@ mod head_tests;
 mod item;
 mod known;
 pub mod letters;
+#[cfg(test)]
+mod read_tests;
 pub mod staged;
 #[cfg(test)]
 mod tests;

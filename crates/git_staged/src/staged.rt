@@ -101,7 +101,7 @@ impl<O: ReadObject, P: Pathspec> FindStaged for Head<'_, O, P> {
 /// HEAD's.
 ///
 /// # Errors
-/// Those of `read_tree`.
+/// Those of `read_beside`.
 fn files_beside<O: ReadObject>(
     alloc: Global,
     objects: &O,
@@ -109,7 +109,7 @@ fn files_beside<O: ReadObject>(
     index: &State,
     made: MadeTree,
 ) -> Result<State, TreeFault>
-    ensures { IsTreeOf (id_kind tree) (index_of index.now) made → IfOk result (λ files. AreHeadFiles (Some tree) (index_of files)) }
+    ensures { IsTreeOf (id_kind tree) (index_of index.now) made → IfOk result (λ files. AreHeadFiles (index_of index.now) (Some tree) (index_of files)) }
 {
     let MadeTree { mut folders, .. } = made;
     put_in_order(&mut folders)?;

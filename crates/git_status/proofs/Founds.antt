@@ -54,6 +54,7 @@ head_early kind bytes trees.Memory = inl refl
 head_early kind bytes (trees.Object id fault) = inr (inr (inl (trees.Object id fault, refl)))
 head_early kind bytes (trees.NoTree id) = inr (inr (inl (trees.NoTree id, refl)))
 head_early kind bytes trees.NotAscending = inr (inr (inl (trees.NotAscending, refl)))
+head_early kind bytes trees.MixedHash = inr (inr (inl (trees.MixedHash, refl)))
 head_early kind bytes trees.ManyItems = inr (inr (inl (trees.ManyItems, refl)))
 head_early kind bytes trees.TooDeep = inr (inr (inl (trees.TooDeep, refl)))
 

@@ -28,6 +28,7 @@ failure_of_head trees.Memory = Memory
 failure_of_head (trees.Object id fault) = Head (trees.Object id fault)
 failure_of_head (trees.NoTree id) = Head (trees.NoTree id)
 failure_of_head trees.NotAscending = Head trees.NotAscending
+failure_of_head trees.MixedHash = Head trees.MixedHash
 failure_of_head trees.ManyItems = Head trees.ManyItems
 failure_of_head trees.TooDeep = Head trees.TooDeep
 

@@ -14,9 +14,9 @@ use Rattle.status_index.specs.Entries.{IndexEntry}
 use Rattle.status_index.specs.FlagBits.{has_bits}
 use Rattle.git_objects.specs.Splits.{Lacks, is_byte}
 use Rattle.git_tree_laws.specs.Agreement.{IsId, file_of}
-use Rattle.git_staged.specs.Staged.{below}
 use Rattle.git_staged.specs.Trees.{Items, no_items, and_leaf, and_folder, and_entries, and_entry, before_folder, in_folder, put, is_slash, components, path_of_item}
 use Rattle.git_staged.proofs.Puts.{first_name, one_component, put_below}
+use Rattle.git_tree_laws.proofs.Copies.{below}
 
 -- The path of a folder's files, up to their own names.
 abbrev pub path_in : List ℕ → List ℕ → List ℕ

@@ -1,22 +1,15 @@
 -- The parts of a tree that is read.
-use Rattle.std.proofs.Common.{◌≡◌, ◌≢◌, ℕ, zero, suc, false, List, ◌∷◌, ◌++◌, length, map, All, inl, inr, refl, sym, ◌∙◌, ap, subst}
+use Rattle.std.proofs.Common.{◌≡◌, ◌≢◌, ℕ, false, List, ◌∷◌, ◌++◌, map, refl, ◌∙◌, ap}
 use Rattle.std.specs.List.{flat_map, AllByRecursion}
 use Rattle.std.proofs.lemmas.List.{map-append}
 use Rattle.std.proofs.lemmas.List.Concat.{flat_map-cons}
-use Rattle.std.proofs.lemmas.List.Elements.{All-drop, All-take}
-use Rattle.std.proofs.Math.Seq.{drop-append_seam, take-append_seam}
-use Rattle.status_index.specs.declared.id.HashKind.{HashKind}
 use Rattle.status_index.specs.declared.id.ObjectId.{ObjectId}
 use Rattle.status_index.specs.declared.mode.Mode.{Mode}
 use Rattle.status_index.specs.declared.mode.Mode.TheVariants.{Dir, File, FileExecutable, Symlink, Commit}
-use Rattle.status_index.specs.BlobId.{id_bytes, id_kind, null_id}
 use Rattle.status_index.specs.Entries.{IndexEntry}
-use Rattle.git_objects.specs.declared.object.ObjectKind.TheVariants.{Tree}
 use Rattle.git_objects.specs.declared.tree.TreeItem.{TreeItem}
-use Rattle.git_objects.specs.Objects.{object_bytes}
 use Rattle.git_tree_laws.specs.Agreement.{file_of}
 use Rattle.git_staged.specs.TreeFiles.{HasFiles, IsItem, Known, Part, is_folder, nothing_known}
-use Rattle.git_tree_laws.proofs.Spelled.{digest_len}
 
 -- A file of a tree: its path, its mode and its id.
 abbrev pub FileInTree : Type 0
@@ -44,14 +37,6 @@ ReadTo d = HasFiles nothing_known d
 abbrev pub AreParts : Known → List ℕ → List Part → Type 0
 AreParts F path ps = AllByRecursion (λ p. IsItem F path p.item p.entries) ps
 
--- What holds of all entries holds of those of the first part, and of the others.
-pub all_parts : (P : IndexEntry → Type 0) (q : Part) (qs : List Part) → All P (flat_map entries_of (q ∷ qs)) → All P q.entries × All P (flat_map entries_of qs)
-all_parts P q qs h =
-    let es : List IndexEntry = q.entries in
-    let fs : List IndexEntry = flat_map entries_of qs in
-    let all : All P (es ++ fs) = subst (All P) (flat_map-cons entries_of q qs) h in
-    (subst (All P) (take-append_seam es fs) (All-take P (length es) (es ++ fs) all), subst (All P) (drop-append_seam es fs) (All-drop P (length es) (es ++ fs) all))
-
 pub files_first : (q : Part) (qs : List Part) → files_of (q ∷ qs) ≡ map file_of q.entries ++ files_of qs
 files_first q qs = ap (map file_of) (flat_map-cons entries_of q qs) ∙ map-append file_of q.entries (flat_map entries_of qs)
 
@@ -61,10 +46,3 @@ no_folder File file = refl
 no_folder FileExecutable file = refl
 no_folder Symlink file = refl
 no_folder Commit file = refl
-
--- A tree that was read has an id of its kind.
-pub read_len : (d : ℕ) (kind : HashKind) (id : ObjectId) (path : List ℕ) (es : List IndexEntry) → ReadTo d id path es → id_kind id ≡ kind → length (id_bytes id) ≡ length (id_bytes (null_id kind))
-read_len zero kind id path es never same = absurd never
-read_len (suc d) kind id path es (inl never) same = absurd never
-read_len (suc d) kind id path es (inr h) same =
-    ap (λ (i : ObjectId). length (id_bytes i)) (sym h.object) ∙ (digest_len (id_kind id) (object_bytes Tree h.bytes) ∙ ap (λ (k : HashKind). length (id_bytes (null_id k))) same)

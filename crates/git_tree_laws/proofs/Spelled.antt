@@ -12,9 +12,9 @@ use Rattle.status_index.specs.declared.id.ObjectId.{ObjectId}
 use Rattle.status_index.specs.declared.id.ObjectId.TheVariants.{Sha1 as Sha1Id, Sha256 as Sha256Id}
 use Rattle.status_index.specs.declared.mode.Mode.{Mode}
 use Rattle.status_index.specs.declared.mode.Mode.TheVariants.{Dir, File, FileExecutable, Symlink, Commit}
-use Rattle.status_index.specs.BlobId.{digest_id, id_bytes, id_kind, null_id}
+use Rattle.status_index.specs.BlobId.{digest_id, id_bytes, id_kind}
 use Rattle.git_objects.specs.declared.tree.TreeItem.{TreeItem}
-use Rattle.git_objects.specs.Contents.{BeginsWith, IsOctal, octal_after}
+use Rattle.git_objects.specs.Contents.{BeginsWith, IsOctal, id_len, octal_after}
 use Rattle.git_objects.specs.Splits.{Lacks, is_byte}
 use Rattle.git_staged.specs.TreeFiles.{tree_mode}
 use Rattle.git_staged.specs.Trees.{octal_mode}
@@ -66,7 +66,7 @@ length-sha1 : (m : List ℕ) → length (sha1 m) ≡ 20
 unfolding sha1 digest_bytes
 length-sha1 m = refl
 
-pub digest_len : (kind : HashKind) (m : List ℕ) → length (id_bytes (digest_id kind m)) ≡ length (id_bytes (null_id kind))
+pub digest_len : (kind : HashKind) (m : List ℕ) → length (id_bytes (digest_id kind m)) ≡ id_len kind
 digest_len Sha1 m = length-sha1 m
 digest_len Sha256 m = length-sha256 m
 

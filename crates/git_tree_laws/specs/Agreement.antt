@@ -1,17 +1,20 @@
 -- A tree that was made of entries has the files that are read of it, up to a collision.
 use mathlib.Core.Logic.{inl, inr}
-use Rattle.std.specs.Prelude.{◌≡◌, ◌≢◌, ◌⊎◌, ℕ, zero, suc, Bool, true, false, List, [], ◌∷◌, ◌++◌, Some, length, map, All}
-use Rattle.std.specs.List.{AllByRecursion}
+use Rattle.std.specs.Prelude.{◌≡◌, ◌≢◌, ◌⊎◌, ℕ, zero, suc, Bool, true, false, not, List, [], ◌∷◌, ◌++◌, Some, length, map, All}
+use Rattle.std.specs.List.{filter, AllByRecursion}
 use Rattle.status_index.specs.declared.id.HashKind.{HashKind}
 use Rattle.status_index.specs.declared.id.ObjectId.{ObjectId}
 use Rattle.status_index.specs.declared.mode.Mode.{Mode}
 use Rattle.status_index.specs.declared.mode.Mode.TheVariants.{Dir}
-use Rattle.status_index.specs.BlobId.{id_bytes, id_kind, null_id}
+use Rattle.status_index.specs.BlobId.{id_bytes, id_kind}
 use Rattle.status_index.specs.Entries.{IndexEntry}
+use Rattle.git_objects.specs.Contents.{id_len}
 use Rattle.git_objects.specs.Splits.{Lacks}
+use Rattle.git_staged.specs.Folders.{inside}
+use Rattle.git_staged.specs.Letters.{is_intended}
 use Rattle.git_staged.specs.Staged.{AreHeadFiles, IsWritten}
 use Rattle.git_staged.specs.TreeFiles.{AreFilesOf, HasFiles, IsItem, ItemOf, Known, Part, is_folder, nothing_known, tree_mode}
-use Rattle.git_staged.specs.Trees.{Items, no_items, and_leaf, and_folder, and_entries, tree_bytes, tree_object_id}
+use Rattle.git_staged.specs.Trees.{Items, no_items, and_leaf, and_folder, and_entries, index_tree_id, tree_bytes, tree_object_id}
 
 -- A tree has these of a file: its path, its mode and its id.
 abbrev pub file_of : IndexEntry → List ℕ × Mode × ObjectId
@@ -21,9 +24,9 @@ file_of e = (e.path, e.mode, e.id)
 abbrev pub SameFiles : List IndexEntry → List IndexEntry → Type 0
 SameFiles es fs = map file_of es ≡ map file_of fs
 
--- An id of this kind, with as many bytes as the kind's null id.
+-- An id of this kind, with as many bytes as ids of the kind have.
 abbrev pub IsId : HashKind → ObjectId → Type 0
-IsId kind id = (id_kind id ≡ kind) × (length (id_bytes id) ≡ length (id_bytes (null_id kind)))
+IsId kind id = (id_kind id ≡ kind) × (length (id_bytes id) ≡ id_len kind)
 
 abbrev pub HaveIds : HashKind → List IndexEntry → Type 0
 HaveIds kind es = All (λ e. IsId kind e.id) es
@@ -69,9 +72,10 @@ IsContent known of (suc depth) id path es (inr h) content =
 abbrev pub IsRead : (depth : ℕ) → ContentOf (HasFiles nothing_known depth)
 IsRead depth = IsContent nothing_known (λ id path es never content. ⊥) depth
 
--- The content of a tree that was read, or that `git write-tree` makes of the files of a folder that wasn't.
-abbrev pub IsFound : (depth : ℕ) → ContentOf (HasFiles IsWritten depth)
-IsFound depth = IsContent IsWritten (λ id path es w content. IsMade (id_kind id) (and_entries no_items w.inner) content) depth
+-- The content of a tree that was read, or that `git write-tree` makes of the entries of a folder that wasn't.
+abbrev pub IsFound : (index : List IndexEntry) (depth : ℕ) → ContentOf (HasFiles (IsWritten index) depth)
+IsFound index depth =
+    IsContent (IsWritten index) (λ id path es w content. IsMade (id_kind id) (and_entries no_items (map (inside (length path)) w.run)) content) depth
 
 -- A collision: two contents, one of each side, differ and have the same id.
 pub record Collision (kind : HashKind) (IsOne IsOther : List ℕ → Type 0) : Type 0 where
@@ -83,18 +87,19 @@ pub record Collision (kind : HashKind) (IsOne IsOther : List ℕ → Type 0) : T
   pub same : tree_object_id kind one ≡ tree_object_id kind other
 
 -- Files of HEAD's tree, some of whose folders were made of an index's entries, are its files when each folder is read.
-abbrev pub HeadIsReadableLaw : ObjectId → List IndexEntry → Type 0
-HeadIsReadableLaw id es = AreFiles es → HaveIds (id_kind id) es → AreHeadFiles (Some id) es → AreFilesOf id es
+abbrev pub HeadIsReadableLaw : List IndexEntry → ObjectId → List IndexEntry → Type 0
+HeadIsReadableLaw index id es = AreFiles index → HaveIds (id_kind id) index → AreHeadFiles index (Some id) es → AreFilesOf id es
 
 -- Whoever reads each folder finds the same files, or a tree that they read collides with one that was found before.
-abbrev pub HeadIsReadLaw : ObjectId → List IndexEntry → List IndexEntry → Type 0
-HeadIsReadLaw id es fs =
-    AreFiles es → HaveIds (id_kind id) es → HaveIds (id_kind id) fs → (head : AreHeadFiles (Some id) es) → (read : AreFilesOf id fs)
-    → SameFiles es fs ⊎ Collision (id_kind id) (IsFound head.0 id [] es head.1) (IsRead read.0 id [] fs read.1)
+abbrev pub HeadIsReadLaw : (index : List IndexEntry) → ObjectId → (es fs : List IndexEntry) → Type 0
+HeadIsReadLaw index id es fs =
+    AreFiles index → HaveIds (id_kind id) index → (head : AreHeadFiles index (Some id) es) → (read : AreFilesOf id fs)
+    → SameFiles es fs ⊎ Collision (id_kind id) (IsFound index head.0 id [] es head.1) (IsRead read.0 id [] fs read.1)
 
--- Entries that `git write-tree` makes a tree of are the files that are read of it, or a tree made of them collides with one
--- that was read.
-abbrev pub WrittenIsReadLaw : ObjectId → List IndexEntry → List IndexEntry → Type 0
-WrittenIsReadLaw id es fs =
-    AreFiles es → HaveIds (id_kind id) es → HaveIds (id_kind id) fs → IsWritten id [] es → (read : AreFilesOf id fs)
-    → SameFiles es fs ⊎ Collision (id_kind id) (IsMade (id_kind id) (and_entries no_items es)) (IsRead read.0 id [] fs read.1)
+-- The entries of an index that makes a tree, except those of `git add -N`, are the files that are read of the tree, or a tree
+-- that the index makes collides with one that was read.
+abbrev pub WrittenIsReadLaw : (index : List IndexEntry) → ObjectId → (fs : List IndexEntry) → Type 0
+WrittenIsReadLaw index id fs =
+    AreFiles index → HaveIds (id_kind id) index → index_tree_id (id_kind id) index ≡ id → (read : AreFilesOf id fs)
+    → SameFiles (filter (λ e. not (is_intended e)) index) fs
+    ⊎ Collision (id_kind id) (IsMade (id_kind id) (and_entries no_items index)) (IsRead read.0 id [] fs read.1)

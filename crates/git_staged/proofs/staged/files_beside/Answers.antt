@@ -13,4 +13,4 @@ returns g c = λ made.
     let folder = IsFolder (id_kind c.args.tree) (index_of c.args.index.now) in
     let sorted = All-permutation folder c.args.made.folders.items c.put_in_order.new.folders.items c.put_in_order.ensures made.folders in
     let all = subst (All folder) (sym c.as_slice.ensures.value) sorted in
-    IfOk-weaker c.read_beside.result _ _ (λ s files. (files.0, more_known _ IsWritten (known_written _ (id_kind c.args.tree) all) files.0 _ _ _ files.1)) c.read_beside.ensures
+    IfOk-weaker c.read_beside.result _ _ (λ s files. (files.0, more_known _ (IsWritten (index_of c.args.index.now)) (known_written _ (id_kind c.args.tree) all) files.0 _ _ _ files.1)) c.read_beside.ensures
