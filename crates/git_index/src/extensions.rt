@@ -51,7 +51,7 @@ impl<'a> Cursor<'a> {
 fn is_known(name: &[u8]) -> bool
     ensures { result ≡ is_known name.now }
 {
-    matches!(name, [b'A'..=b'Z', ..]) || name == b"sdir"
+    matches!(name, [b'A'..=b'Z', ..]) || name == b"sdir".as_slice()
 }
 
 /// Checks that these bytes are extensions that are known or may be skipped, one after the other.
