@@ -32,6 +32,9 @@ pub struct Settings {
     /// Whether git reads attributes elsewhere: newer versions in a tree (`attr.tree`, `GIT_ATTR_SOURCE`), or in the folder of
     /// `GIT_COMMON_DIR`.
     pub has_other_attributes: bool,
+    /// Whether a file that a sparse checkout leaves out counts if it is there (`core.sparseCheckout` without
+    /// `sparse.expectFilesOutsideOfPatterns`).
+    pub counts_left_out: bool,
     /// Whether the configuration includes files. They aren't read.
     pub has_include: bool,
 }
@@ -125,8 +128,17 @@ fn settings_in<R: Env + AllocGlobal>(
         ),
         ignore_case: switch_or(alloc, config, "core.ignorecase", false)?,
         has_other_attributes: has_other_attributes(rt, config)?,
+        counts_left_out: counts_left_out(alloc, config)?,
         has_include: config.has_include(),
     })
+}
+
+// Returns whether a file that a sparse checkout leaves out counts if it is there.
+fn counts_left_out(alloc: Global, config: &Config) -> Result<bool, RepositoryError> {
+    Ok(
+        switch_or(alloc, config, "core.sparsecheckout", false)?
+            && !switch_or(alloc, config, "sparse.expectfilesoutsideofpatterns", false)?,
+    )
 }
 
 // Returns whether git reads attributes elsewhere, as `Settings` states.
