@@ -10,6 +10,7 @@ use crate::refresh::Refresh;
 use crate::refused::{Illformed, Refused};
 use crate::request::{Columns, Request, Selected, selected_by};
 use crate::selection::{Exceptions, check_each, tops_of, untracked_of};
+use crate::sparse::whole_index;
 use crate::staged::run_staged;
 use git_attributes::{AttributeFiles, WithStaged};
 use git_explain::{Wanted, run_explain};
@@ -122,6 +123,11 @@ where
     let settings = settings_of(&repository, request, file.timestamp);
     let read = read_for(request, alloc, &file.bytes, &settings)?;
     let worktree = worktree_at(rt, top, request.enter)?;
+    let made = whole_index(rt, &repository, &read, &worktree, &head)?;
+    let read = match &made {
+        Some(bytes) => ReadIndex::of(alloc, bytes, &settings)?,
+        None => read,
+    };
     check_each(alloc, &read.file.state, &worktree, &head, &selected)?;
     let modules = modules_of(rt, &repository, &read.file.state, &head)?;
     let ignored = IgnoredSubmodules::new(alloc, &modules, &repository.config)?;
@@ -182,6 +188,7 @@ where
     let refresh = Refresh {
         repository: &repository,
         old: &file,
+        is_remade: made.is_some(),
         begun,
     };
     refresh.end(rt, compared)

@@ -16,7 +16,7 @@ use std::rt::{Env, Files};
 pub(crate) struct HeadCommit<'r, R: Files> {
     objects: ObjectStore<'r, R>,
     /// None for a branch without a commit.
-    tree: Option<ObjectId>,
+    pub(crate) tree: Option<ObjectId>,
 }
 
 impl<'r, R: AllocGlobal + Env + Files> HeadCommit<'r, R>

@@ -18,6 +18,8 @@ pub struct Refresh<'a> {
     pub repository: &'a Repository,
     /// The file that was compared.
     pub old: &'a FoundIndex,
+    /// Whether another index was compared, since the worktree has files that a sparse checkout leaves out.
+    pub is_remade: bool,
     /// When the refresh began: the time of a lock. That there was none counts once there is a new file.
     pub begun: Result<SystemTime, RepositoryError>,
 }
@@ -75,6 +77,8 @@ impl Refresh<'_> {
             Some("core.ignoreCase is set, and attributes of paths are found by their exact case")
         } else if settings.has_other_attributes {
             Some("git may read other attributes (attr.tree, GIT_ATTR_SOURCE, GIT_COMMON_DIR)")
+        } else if self.is_remade {
+            Some("the worktree has files that the sparse checkout leaves out")
         } else if !is_whole && self.old.timestamp.secs == 0 {
             Some("its time is in the first second of 1970, when no entry is racy to git")
         } else {

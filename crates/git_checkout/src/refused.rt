@@ -2,6 +2,7 @@
 
 use git_objects::ObjectFault;
 use git_repository::{RepositoryError, Unread};
+use git_staged::TreeFault;
 use git_status::Failure;
 use git_status::lines::Quoted;
 use std::alloc::{AllocError, AllocFailed, Global};
@@ -48,6 +49,11 @@ pub enum Refused {
     Modules {
         /// Why it isn't read.
         fault: ObjectFault,
+    },
+    /// The tree of a folder of a sparse index can't be read.
+    Sparse {
+        /// Why it isn't read.
+        fault: TreeFault,
     },
     /// The time of the index file isn't known.
     Clock,
@@ -114,6 +120,9 @@ impl fmt::Display for Refused {
             Refused::Object(fault) => write!(f, "can't read HEAD's commit: {fault}"),
             Refused::Modules { fault } => {
                 write!(f, "can't read .gitmodules, which isn't in the worktree: {fault}")
+            }
+            Refused::Sparse { fault } => {
+                write!(f, "can't read the files of a folder of the sparse index: {fault}")
             }
             Refused::Clock => f.write_str("the time of the index file isn't known"),
             Refused::Memory => f.write_str("out of memory"),

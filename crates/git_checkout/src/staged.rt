@@ -6,6 +6,7 @@ use crate::index_file::read_index_file;
 use crate::refused::Refused;
 use crate::request::{Columns, Request, Selected, selected_by};
 use crate::selection::{check_each, tops_of};
+use crate::sparse::whole_index;
 use git_repository::Repository;
 use git_status::lines::LineStyle;
 use git_status::{Paths, ReadIndex, print_staged};
@@ -54,6 +55,11 @@ where
     };
     let settings = settings_of(&repository, request, file.timestamp);
     let read = ReadIndex::of(alloc, &file.bytes, &settings)?;
+    let made = whole_index(rt, &repository, &read, &nowhere, &head)?;
+    let read = match &made {
+        Some(bytes) => ReadIndex::of(alloc, bytes, &settings)?,
+        None => read,
+    };
     let index = &read.file.state;
     check_each(alloc, index, &nowhere, &head, &selected)?;
     print_columns(alloc, request, &repository, index, &head, &selected, output)

@@ -79,13 +79,6 @@ impl fmt::Display for Failure {
                     name: [b'l', b'i', b'n', b'k'],
                 },
             ) => f.write_str("the index is split: run git update-index --no-split-index"),
-            Failure::Index(
-                IndexFileError::Required {
-                    name: [b's', b'd', b'i', b'r'],
-                },
-            ) => f.write_str(
-                "the index is sparse: run git sparse-checkout reapply --no-sparse-index",
-            ),
             Failure::Index(IndexFileError::Required { name }) => {
                 let name = BStr::new(name);
                 write!(f, "the index has an extension that isn't known: {name:?}")
