@@ -43,3 +43,16 @@ class SparseDrawing(CommitDrawing):
         while self.chance(0.4):
             self.put_text(self.path(self.random.choice([*PATHS, "many/10"])))
         super().edit()
+        self.drop_twins()
+
+    def drop_twins(self):
+        """Removes entries of the same path and stage, which git leaves behind when it resets a sparse index."""
+        rows = self.git("ls-files", "-sz").split(b"\0")[:-1]
+        names = [row.partition(b"\t")[2] for row in rows if row.partition(b"\t")[0].endswith(b" 0")]
+        for name in {name for name in names if names.count(name) > 1}:
+            while name in self.git("ls-files", "-z", "--", name).split(b"\0"):
+                self.git("update-index", "--force-remove", "--", name)
+            self.paths.pop(name.decode(), None)
+
+    def replace(self):
+        """Replaces no object: each of these may be needed, also without HEAD."""

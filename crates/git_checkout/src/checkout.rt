@@ -123,7 +123,7 @@ where
     let settings = settings_of(&repository, request, file.timestamp);
     let read = read_for(request, alloc, &file.bytes, &settings)?;
     let worktree = worktree_at(rt, top, request.enter)?;
-    let made = whole_index(rt, &repository, &read, &worktree, &head)?;
+    let made = whole_index(rt, &repository, &read, &worktree, &head, &selected)?;
     let read = match &made {
         Some(bytes) => ReadIndex::of(alloc, bytes, &settings)?,
         None => read,

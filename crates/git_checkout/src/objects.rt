@@ -50,7 +50,12 @@ where
     let found = match (index.entries_at(BStr::new(MODULES.as_bytes())), head) {
         ([entry, ..], _) => Some(entry.id),
         ([], Some(head)) => head.item_at_top(MODULES.as_bytes())?,
-        ([], None) => head_alone(rt, repository)?.item_at_top(MODULES.as_bytes())?,
+        ([], None) => match HeadCommit::read(rt, repository) {
+            Ok(head) => head.item_at_top(MODULES.as_bytes())?,
+            // A commit that replaces HEAD's is left out here.
+            Err(Refused::Objects { .. }) => None,
+            Err(error) => return Err(error),
+        },
     };
     let Some(id) = found else {
         return Ok(ModulesFile::Missing);
@@ -61,24 +66,5 @@ where
         }
         Ok(_) | Err(ObjectFault::Missing { .. }) => Ok(ModulesFile::Missing),
         Err(fault) => Err(Refused::Modules { fault }),
-    }
-}
-
-/// Reads HEAD's commit for a request that doesn't compare the index with it.
-///
-/// # Errors
-/// Those of `HeadCommit::read`, in other words if objects aren't read as git reads them.
-fn head_alone<'r, R: AllocGlobal + Env + Files>(
-    rt: &'r R,
-    repository: &Repository,
-) -> Result<HeadCommit<'r, R>, Refused>
-where
-    R::File: FileExt,
-{
-    match HeadCommit::read(rt, repository) {
-        Err(Refused::Objects { .. }) => Err(Refused::Modules {
-            fault: ObjectFault::Elsewhere,
-        }),
-        read => read,
     }
 }

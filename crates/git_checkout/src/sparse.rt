@@ -3,6 +3,7 @@
 use crate::head::HeadCommit;
 use crate::objects::LazyObjects;
 use crate::refused::Refused;
+use crate::request::Selected;
 use bitflags::Flags as _;
 use bstr::{BStr, BString};
 use git_index::{IndexFileError, ends_with_checksum, write_index};
@@ -21,8 +22,9 @@ const VERSION: u32 = 3;
 
 /// Returns the bytes of the index file that git makes of one that was read, if it makes another one.
 ///
-/// A sparse index gets the files of its folders if one of the folders is in the worktree, or if something is staged. Then, if the
-/// settings say so, each entry that the sparse checkout leaves out counts as any other if its file is there.
+/// A sparse index gets the files of its folders if one of the folders is in the worktree, if something is staged, or if a path
+/// within one of the folders is selected. Then, if the settings say so, each entry that the sparse checkout leaves out counts as
+/// any other if its file is there.
 ///
 /// # Errors
 /// A folder's tree can't be read, the index has too many entries, or out of memory.
@@ -32,6 +34,7 @@ pub(crate) fn whole_index<R: AllocGlobal + Env + Files, W: Worktree>(
     read: &ReadIndex<'_>,
     worktree: &W,
     head: &Option<HeadCommit<'_, R>>,
+    selected: &[Selected<'_>],
 ) -> Result<Option<Vec<u8>>, Refused>
 where
     R::File: FileExt,
@@ -39,7 +42,11 @@ where
     let alloc = rt.alloc();
     let index = &read.file.state;
     let mut made = None;
-    if has_folders(index) && (has_one_there(index, worktree) || is_staged(alloc, index, head)?) {
+    if has_folders(index)
+        && (has_one_there(index, worktree)
+            || has_one_above(index, selected)
+            || is_staged(alloc, index, head)?)
+    {
         made = Some(full_index(rt, repository, index)?);
     }
     if repository.settings.counts_left_out {
@@ -66,6 +73,19 @@ fn has_one_there<W: Worktree>(index: &State, worktree: &W) -> bool {
     index.entries().iter().any(|entry| {
         entry.mode == Mode::Dir && is_folder_there(worktree, entry.path_in(backing).as_bytes())
     })
+}
+
+/// Returns whether a selected path is within one of the folders of a sparse index.
+fn has_one_above(index: &State, selected: &[Selected<'_>]) -> bool {
+    let backing = index.path_backing();
+    !selected.is_empty()
+        && index.entries().iter().any(|entry| {
+            let path = entry.path_in(backing).as_bytes();
+            entry.mode == Mode::Dir
+                && selected
+                    .iter()
+                    .any(|one| one.path.as_bytes().starts_with(path))
+        })
 }
 
 /// Returns whether a folder is at a path that ends with a slash.
@@ -171,11 +191,12 @@ fn numbers_there<W: Worktree>(
     Ok(numbers)
 }
 
-/// Returns whether something is at a path, or a link is on the way to it.
+/// Returns whether something is at a normal path, as in git also at the end of links to folders on the way to it: then the status
+/// has the entry's file for removed.
 fn is_there<W: Worktree>(check: &mut SymlinkCheck, worktree: &W, path: BStr<'_>) -> bool {
     match check.verified_path(worktree, path) {
-        Ok(_) => worktree.lstat(path).is_ok(),
-        Err(error) => matches!(error, StackError::ThroughLink { .. }),
+        Ok(_) | Err(StackError::ThroughLink { .. }) => worktree.lstat(path).is_ok(),
+        Err(_) => false,
     }
 }
 

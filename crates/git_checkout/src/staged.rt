@@ -55,7 +55,7 @@ where
     };
     let settings = settings_of(&repository, request, file.timestamp);
     let read = ReadIndex::of(alloc, &file.bytes, &settings)?;
-    let made = whole_index(rt, &repository, &read, &nowhere, &head)?;
+    let made = whole_index(rt, &repository, &read, &nowhere, &head, &selected)?;
     let read = match &made {
         Some(bytes) => ReadIndex::of(alloc, bytes, &settings)?,
         None => read,
