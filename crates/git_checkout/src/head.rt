@@ -2,7 +2,9 @@
 
 use crate::refused::Refused;
 use crate::replaced::check_objects;
-use git_objects::{FirstItem, ObjectFault, ObjectKind, ObjectStore, ReadObject as _, tree_of_commit};
+use git_objects::{
+    FirstItem, ObjectFault, ObjectKind, ObjectStore, ReadObject as _, tree_of_commit,
+};
 use git_repository::{Repository, head_of};
 use git_staged::{Head, TreeFault, read_tree};
 use git_status::{Failure, Paths};

@@ -2,9 +2,9 @@
 
 use crate::head::{HeadCommit, store_of};
 use crate::refused::Refused;
+use bstr::BStr;
 use git_objects::{Object, ObjectFault, ObjectKind, ReadObject};
 use git_repository::{MODULES, ModulesFile, Repository};
-use bstr::BStr;
 use status_index::{ObjectId, State};
 use std::os::unix::fs::FileExt;
 use std::rt::{Env, Files};

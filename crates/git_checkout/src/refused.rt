@@ -119,10 +119,16 @@ impl fmt::Display for Refused {
             Refused::NoCommit => f.write_str("HEAD isn't a commit"),
             Refused::Object(fault) => write!(f, "can't read HEAD's commit: {fault}"),
             Refused::Modules { fault } => {
-                write!(f, "can't read .gitmodules, which isn't in the worktree: {fault}")
+                write!(
+                    f,
+                    "can't read .gitmodules, which isn't in the worktree: {fault}"
+                )
             }
             Refused::Sparse { fault } => {
-                write!(f, "can't read the files of a folder of the sparse index: {fault}")
+                write!(
+                    f,
+                    "can't read the files of a folder of the sparse index: {fault}"
+                )
             }
             Refused::Clock => f.write_str("the time of the index file isn't known"),
             Refused::Memory => f.write_str("out of memory"),

@@ -2,10 +2,9 @@
 
 use crate::config::{Config, Variable};
 use crate::error::RepositoryError;
-use crate::files::joined;
-use crate::sources::config_of;
-use crate::files::read_if_there;
+use crate::files::{joined, read_if_there};
 use crate::regular::SMALL_LIMIT;
+use crate::sources::config_of;
 use bstr::BStr;
 use status_index::State;
 use std::alloc::{AllocError, Global};

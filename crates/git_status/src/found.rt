@@ -15,7 +15,8 @@ use crate::read::ReadIndex;
 use crate::refresh::Refreshed;
 use crate::status::{Computed, compute_both, filter_of};
 use git_attributes::{
-    AttributeFault, AttributeFile, AttributeFiles, FolderSearch, attributes_of, find_attribute_files,
+    AttributeFault, AttributeFile, AttributeFiles, FolderSearch, attributes_of,
+    find_attribute_files,
 };
 use git_index::IndexFileError;
 use git_staged::FindStaged;
