@@ -8,3 +8,4 @@ pub mod Ordered
 pub mod Merges
 pub mod FolderRuns
 pub mod Unstaged
+pub mod SparseEntries

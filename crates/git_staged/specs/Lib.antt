@@ -5,3 +5,4 @@ pub mod Trees
 pub mod Folders
 pub mod OpenFolders
 pub mod Staged
+pub mod Expanded

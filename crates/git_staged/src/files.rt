@@ -3,9 +3,9 @@
 ghost use Rattle.std.specs.Prelude.{◌≡◌, ◌∷◌, ◌++◌, [], ℕ, List, IfOk, OnOk};
 ghost use Rattle.status_index.specs.BlobId.{id_kind};
 ghost use Rattle.status_index.specs.Entries.{IndexEntry, entry_of_fields};
-ghost use Rattle.status_index.specs.States.{index_of};
+ghost use Rattle.status_index.specs.States.{index_of, timestamp_of};
 ghost use Rattle.git_staged.specs.Folders.{IsKnown};
-ghost use Rattle.git_staged.specs.TreeFiles.{AreFilesOf, HasFiles, IsFile, IsItem, is_folder, tree_mode};
+ghost use Rattle.git_staged.specs.TreeFiles.{AreFilesOf, HasFiles, IsFile, IsItem, is_folder, nothing_known, tree_mode};
 
 use crate::error::TreeFault;
 use crate::known::{KnownFolders, add_copies};
@@ -43,15 +43,30 @@ pub fn read_tree<O: ReadObject>(
 ) -> Result<State, TreeFault>
     ensures { IfOk result (λ s. AreFilesOf tree (index_of s)) }
 {
+    read_folder(alloc, objects, tree, b"")
+}
+
+/// Returns the files of a folder as an index. `path` is that of the folder, with a slash at its end, or nothing for the top.
+///
+/// # Errors
+/// Those of `read_tree`.
+pub(crate) fn read_folder<O: ReadObject>(
+    alloc: Global,
+    objects: &O,
+    tree: ObjectId,
+    path: &[u8],
+) -> Result<State, TreeFault>
+    ensures { IfOk result (λ s. (depth : ℕ) × HasFiles nothing_known depth tree path.now (index_of s)) }
+{
     let nothing = State::new(alloc, Moment::default());
     let known = KnownFolders {
         index: &nothing,
         folders: &[],
     };
-    read_beside(alloc, objects, tree, known)
+    read_beside(alloc, objects, tree, path, known)
 }
 
-/// Returns the files of a tree as an index. A folder isn't read if its files are known.
+/// Returns the files of a folder as an index. A folder within it, or the folder itself, isn't read if its files are known.
 ///
 /// # Errors
 /// Those of `read_tree`, or the known files have ids of another kind.
@@ -59,12 +74,13 @@ pub(crate) fn read_beside<O: ReadObject>(
     alloc: Global,
     objects: &O,
     tree: ObjectId,
+    path: &[u8],
     folders: KnownFolders<'_>,
 ) -> Result<State, TreeFault>
-    ensures { IfOk result (λ s. (depth : ℕ) × HasFiles (IsKnown folders.entry) depth tree [] (index_of s)) }
+    ensures { IfOk result (λ s. (depth : ℕ) × HasFiles (IsKnown folders.entry) depth tree path.now (index_of s)) }
 {
     let mut files = State::new(alloc, Moment::default());
-    let mut path = Vec::new(alloc);
+    let mut path = Vec::from_slice(alloc, path)?;
     let mut progress = Progress {
         left: MOST_ITEMS,
         next: 0,
@@ -195,7 +211,8 @@ pub(crate) fn push_file(
     mode: Mode,
     path: &[u8],
 ) -> Result<(), TreeFault>
-    ensures { OnOk result (index_of files.new ≡ index_of files.old ++ entry_of_fields path.now stat id flags mode ∷ []) }
+    ensures files { OnOk result (index_of files.new ≡ index_of files.old ++ entry_of_fields path.now stat id flags mode ∷ []) }
+    ensures time { timestamp_of files.new ≡ timestamp_of files.old }
 {
     match files.push_entry(stat, id, flags, mode, BStr::new(path)) {
         Ok(()) => Ok(()),
@@ -208,7 +225,7 @@ pub(crate) fn push_file(
 }
 
 /// Returns whether a mode is of a folder.
-fn is_folder(mode: Mode) -> bool
+pub(crate) fn is_folder(mode: Mode) -> bool
     ensures { result ≡ is_folder mode }
 {
     mode.bits() == 0x4000

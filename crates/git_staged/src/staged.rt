@@ -117,7 +117,7 @@ fn files_beside<O: ReadObject>(
         index,
         folders: folders.as_slice(),
     };
-    read_beside(alloc, objects, tree, known)
+    read_beside(alloc, objects, tree, b"", known)
 }
 
 /// Returns the selected paths at which an index differs from HEAD's files, in order.
