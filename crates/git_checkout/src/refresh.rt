@@ -89,7 +89,7 @@ impl Refresh<'_> {
 
 /// Returns whether there is an extension of this name. Each has four bytes of name, the length of its content in four bytes,
 /// and the content.
-fn has_extension(extensions: &[u8], name: [u8; 4]) -> bool {
+pub(crate) fn has_extension(extensions: &[u8], name: [u8; 4]) -> bool {
     let mut rest = extensions;
     'extensions: while let [a, b, c, d, e, f, g, h, after @ ..] = rest {
         if [*a, *b, *c, *d] == name {

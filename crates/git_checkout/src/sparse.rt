@@ -2,6 +2,7 @@
 
 use crate::head::HeadCommit;
 use crate::objects::LazyObjects;
+use crate::refresh::has_extension;
 use crate::refused::Refused;
 use crate::request::Selected;
 use bitflags::Flags as _;
@@ -19,6 +20,9 @@ use std::rt::{Env, Files};
 
 /// The version of index files that has the flag of entries that a sparse checkout leaves out.
 const VERSION: u32 = 3;
+
+/// The name of the extension that a sparse index has.
+const SPARSE: [u8; 4] = *b"sdir";
 
 /// Returns the bytes of the index file that git makes of one that was read, if it makes another one.
 ///
@@ -42,7 +46,8 @@ where
     let alloc = rt.alloc();
     let index = &read.file.state;
     let mut made = None;
-    if has_folders(index)
+    if has_extension(read.file.extensions, SPARSE)
+        && has_folders(index)
         && (has_one_there(index, worktree)
             || has_one_above(index, selected)
             || is_staged(alloc, index, head)?)
