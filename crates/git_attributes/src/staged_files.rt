@@ -22,7 +22,7 @@ use git_patterns::text::is_word;
 use status_index::{Entry, ObjectId, PathStorage, State};
 use std::alloc::{AllocError, Global};
 
-/// Attribute files, and those that are only in the index. As git does, it counts where the worktree has no file of its folder
+/// Attribute files, and those that are only in the index. As in git, such a file counts if the worktree has none of its folder
 /// that can be read. Its object is read.
 #[derive(Drop)]
 pub struct WithStaged<'a, A, O> {

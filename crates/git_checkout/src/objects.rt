@@ -30,7 +30,7 @@ where
     }
 }
 
-/// Returns the `.gitmodules` that counts: that of the worktree, or if it has none, the index's, or else that of HEAD's commit.
+/// Returns the `.gitmodules` that counts: that of the worktree, or if it has none, the index's, or if that has none, HEAD's.
 ///
 /// # Errors
 /// HEAD or an object can't be read, or out of memory.
