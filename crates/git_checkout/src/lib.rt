@@ -3,9 +3,10 @@
 //!
 //! Read `request` first, the options of a call and the paths that it selects, and then `checkout`, the calls. They find
 //! the repository, read HEAD's commit (`head`, which asks `replaced` whether git reads other objects), read the index
-//! file (`index_file`), make that of a sparse checkout whole (`sparse`) and choose its entries (`selection`). `staged` is the call for the first column alone. The
-//! contract of the comparison is that of `run_dirty` in the crate git_status. `objects` reads what git reads
-//! of the index if the worktree has no file. `refresh` writes the new index file, and `refused` is why a call can't begin.
+//! file (`index_file`), make that of a sparse checkout whole (`sparse`) and choose its entries (`selection`). `staged` is
+//! the call for the first column alone. The contract of the comparison is that of `run_dirty` in the crate git_status.
+//! `objects` reads what git reads of the index if the worktree has no file. `refresh` writes the new index file, and
+//! `refused` is why a call can't begin.
 #![tactic(auto)]
 
 pub mod checkout;
