@@ -56,11 +56,10 @@ class AttributeDrawing(draw_repositories.Drawing):
             content = self.content()
             self.texts[path], self.paths[path] = (content, self.blob(content)), "file"
         self.put_settings()
-        for path in self.attribute_files():
-            write(self.path(path), self.attributes(path))
+        entries = self.put_attributes()
         for path, (content, _) in self.texts.items():
             write(self.path(path), content)
-        self.put_entries([("100644", self.put_object(blob), 0, path) for path, (_, blob) in self.texts.items()])
+        self.put_entries([("100644", self.put_object(blob), 0, path) for path, (_, blob) in self.texts.items()] + entries)
         self.put_sizes()
 
     def drawn_paths(self):
@@ -73,7 +72,8 @@ class AttributeDrawing(draw_repositories.Drawing):
         for path, texts in self.texts.items():
             content, blob = map(len, texts)
             sizes[path.encode()] = self.random.choice([0, 0, 0, content, content, content, blob])
-        write(self.path(".git/index"), index.with_entries(with_stat(it, SIZE, sizes[it.path]) for it in index.entries).file())
+        entries = [with_stat(it, SIZE, sizes.get(it.path, 0)) for it in index.entries]
+        write(self.path(".git/index"), index.with_entries(entries).file())
 
     # Contents.
 
@@ -116,6 +116,19 @@ class AttributeDrawing(draw_repositories.Drawing):
         folders = {path[: at + 1] for path in self.texts for at, letter in enumerate(path) if letter == "/"} | {""}
         found = [f"{folder}.gitattributes" for folder in sorted(folders) if self.chance(0.4)]
         return found + [".git/info/attributes"] * self.chance(0.4) + [f"{USER}/{self.user_file}"] * (self.user_file != "")
+
+    def put_attributes(self):
+        """Writes attribute files. Some are only in the index, or have another text there. Returns their entries."""
+        entries = []
+        for path in self.attribute_files():
+            is_staged = path.endswith(".gitattributes") and self.chance(0.5)
+            if is_staged:
+                stage = self.random.choice([0, 0, 0, 2])
+                self.note("staged", stage)
+                entries.append(("100644", self.put_object(self.attributes(path)), stage, path))
+            if not is_staged or self.chance(0.2):
+                write(self.path(path), self.attributes(path))
+        return entries
 
     def attributes(self, path):
         """Returns the text of the attribute file at a path."""
