@@ -3,6 +3,7 @@
 ghost use Rattle.std.specs.Prelude.{IfOk};
 ghost use Rattle.git_status.specs.Reads.{IsRead};
 
+use crate::attributes::{AskedFor, has_cone};
 use crate::head::{HeadCommit, head_at};
 use crate::index_file::{FoundIndex, read_index_file};
 use crate::objects::{LazyObjects, modules_of};
@@ -142,9 +143,13 @@ where
         rt,
         repository: &repository,
     };
-    let attributes = WithStaged {
-        others: GitAttributeFiles::new(rt, &repository)?,
-        objects: &objects,
+    let attributes = AskedFor {
+        worktree: &worktree,
+        is_cone: has_cone(&repository),
+        files: WithStaged {
+            others: GitAttributeFiles::new(rt, &repository)?,
+            objects: &objects,
+        },
     };
     let asked = Asked {
         settings,

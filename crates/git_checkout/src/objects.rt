@@ -22,12 +22,25 @@ where
 {
     fn read(&self, id: ObjectId) -> Result<Object, ObjectFault> {
         match store_of(self.rt, self.repository) {
-            Ok(store) => store.read(id),
+            Ok(store) => match store.read(id) {
+                Err(ObjectFault::Missing { .. }) if is_partial(self.repository) => {
+                    Err(ObjectFault::Elsewhere)
+                }
+                read => read,
+            },
             Err(Refused::Memory) => Err(ObjectFault::Memory),
             Err(Refused::Object(fault)) => Err(fault),
             Err(_) => Err(ObjectFault::Elsewhere),
         }
     }
+}
+
+/// Returns whether git fetches objects that aren't there (a partial clone).
+fn is_partial(repository: &Repository) -> bool {
+    repository.config.variables().iter().any(|variable| {
+        variable.is_named(b"extensions", None, b"partialclone")
+            || variable.subsection_of(b"remote").is_some() && variable.has_name(b"promisor")
+    })
 }
 
 /// Returns the `.gitmodules` that counts: that of the worktree, or if it has none, the index's, or if that has none, HEAD's.

@@ -199,7 +199,7 @@ fn is_gone<W: Worktree>(check: &mut SymlinkCheck, worktree: &W, path: BStr<'_>) 
 }
 
 /// Adds an entry with its path to a list.
-fn put(list: &mut State, entry: &Entry, path: BStr<'_>) -> Result<(), AllocError> {
+pub(crate) fn put(list: &mut State, entry: &Entry, path: BStr<'_>) -> Result<(), AllocError> {
     match list.push_entry(entry.stat, entry.id, entry.flags, entry.mode, path) {
         Ok(()) => Ok(()),
         Err(_) => Err(AllocError),
