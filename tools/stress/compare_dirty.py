@@ -34,8 +34,6 @@ PART = 25
 NOTES, NOTHING = rb"\A(git dirty: note: [^\n]*\n)*\Z", rb"\A\Z"
 # Its failure for a path that selects nothing.
 REFUSED = rb"\Agit dirty: no tracked file matches '.*'\n\Z"
-# That for a .gitmodules, which is searched in HEAD's commit, if objects are replaced.
-NO_MODULES = rb"\Agit dirty: can't read [.]gitmodules, which isn't in the worktree: git reads other objects [^\n]*\n\Z"
 
 
 class Comparer:
@@ -86,18 +84,12 @@ class Comparer:
         is_there &= columns != ["--staged"] or place == os.path.normpath(self.top)
         return is_there or self.git.run(words, self.drawing.environment).out != b""
 
-    def has_submodule(self):
-        """Returns whether the index has a submodule. No drawn worktree or index has a .gitmodules."""
-        return b"\n160000 " in b"\n" + self.git.run(["-C", self.top, "ls-files", "-s"], self.drawing.environment).out
-
     def differences(self):
         """Yields how each run that differs does."""
         for words, (lines, notes) in self.runs():
             ended = self.program.run(words, {**self.drawing.environment, "GIT_LITERAL_PATHSPECS": "1"})
             if self.drawing.refusal and "--worktree" not in words:
                 lines, notes = None, self.drawing.refusal
-            elif self.drawing.refusal and lines is not None and self.has_submodule():
-                lines, notes = None, NO_MODULES
             lines = None if lines is None else as_dirty(lines, *words)
             printed = b"" if lines is None or "-q" in words else lines
             status = 2 if lines is None else int(lines != b"")
