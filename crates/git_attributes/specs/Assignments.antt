@@ -4,8 +4,8 @@ use Rattle.std.specs.List.{list_all}
 use Rattle.std.specs.Option.{option_and_then}
 use Rattle.git_patterns.specs.Items.{all_of, items_of}
 use Rattle.git_patterns.specs.Sets.{is_digit, is_lower, is_upper}
-use Rattle.git_patterns.specs.Text.{first_at}
-use Rattle.git_attributes.specs.Words.{before, skip_blanks, word_at}
+use Rattle.git_patterns.specs.Text.{before, first_at}
+use Rattle.git_attributes.specs.Words.{skip_blanks, word_at}
 
 -- An attribute is set, unset, unspecified, or set to a text.
 pub data State : Type 0 where

@@ -1,8 +1,7 @@
 -- What attribute files say.
-use Rattle.std.specs.Prelude.{ℕ, ◌+◌, ◌-◌, Bool, true, ◌==◌, List, [], ◌∷◌, ◌++◌, length, take, drop, slice_index, codes, Option, Some, None, if◌then◌else◌}
-use Rattle.std.specs.Str.{bytes_eq}
+use Rattle.std.specs.Prelude.{ℕ, ◌+◌, Bool, true, List, [], ◌∷◌, ◌++◌, length, take, drop, codes, Option, Some, None, if◌then◌else◌}
 use Rattle.git_patterns.specs.Items.{items_of}
-use Rattle.git_patterns.specs.Text.{first_at}
+use Rattle.git_patterns.specs.Text.{first_at, without_cr, without_mark}
 use Rattle.git_attributes.specs.Assignments.{Given}
 use Rattle.git_attributes.specs.Lines.{Line, Macro, MacroLine, Rule, RuleLine, line_at}
 use Rattle.git_attributes.specs.States.{states_by}
@@ -18,9 +17,6 @@ abbrev pub Said : Type 0
 Said = List Rule × List Macro
 
 -- A CR before the line feed isn't part of the line.
-abbrev pub without_cr : List ℕ → List ℕ
-without_cr line = if slice_index line (length line - 1) == 13 then take (length line - 1) line else line
-
 abbrev pub split_line : Option ℕ → List ℕ → List ℕ × List ℕ
 split_line None text = (text, [])
 split_line (Some at) text = (without_cr (take at text), drop (at + 1) text)
@@ -29,10 +25,6 @@ split_line (Some at) text = (without_cr (take at text), drop (at + 1) text)
 abbrev pub line_step : List ℕ → Option (List ℕ × List ℕ)
 line_step [] = None
 line_step (b ∷ rest) = Some (split_line (first_at 10 (b ∷ rest)) (b ∷ rest))
-
--- A byte order mark that comes first doesn't count.
-abbrev pub without_mark : List ℕ → List ℕ
-without_mark bytes = if bytes_eq (take 3 bytes) (0xEF ∷ 0xBB ∷ 0xBF ∷ []) then drop 3 bytes else bytes
 
 -- A line's rule is added, and its macro if the file may state one.
 abbrev pub with_line : Bool → Said → Line → Said
@@ -47,7 +39,7 @@ abbrev pub with_lines : Bool → List ℕ → List (List ℕ) → Said → Said
 with_lines has_macros folder [] said = said
 with_lines has_macros folder (line ∷ lines) said = with_lines has_macros folder lines (with_any_line has_macros said (line_at folder line))
 
--- The lines of a file are added to those of weaker files.
+-- The lines of a file are added to those of weaker files. A byte order mark that comes first doesn't count.
 abbrev pub with_file : Said → File → Said
 with_file said file =
     let text = without_mark file.bytes in

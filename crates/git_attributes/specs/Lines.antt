@@ -1,14 +1,13 @@
 -- The lines of an attribute file (gitattributes(5)).
-use Rattle.std.specs.Prelude.{ℕ, ◌-◌, ◌==◌, ◌&&◌, ◌||◌, not, nat_le, nat_lt, Bool, List, [], ◌∷◌, length, take, drop, slice_index, codes, Option, Some, None, option_map, if◌then◌else◌}
-use Rattle.std.specs.List.{list_any}
+use Rattle.std.specs.Prelude.{ℕ, ◌&&◌, ◌||◌, not, nat_le, nat_lt, Bool, List, length, take, drop, codes, Option, Some, None, option_map, if◌then◌else◌}
 use Rattle.std.specs.Option.{option_and_then}
 use Rattle.std.specs.Str.{bytes_eq}
 use Rattle.git_patterns.specs.Patterns.{parts_of}
-use Rattle.git_patterns.specs.Text.{begins_with}
+use Rattle.git_patterns.specs.Text.{before, begins_with, ends_in_slash, has_slash, without_slash}
 use Rattle.git_patterns.specs.Wildmatch.{Part}
 use Rattle.git_attributes.specs.Assignments.{Given, assignments_of, is_name}
 use Rattle.git_attributes.specs.Quoted.{unquoted}
-use Rattle.git_attributes.specs.Words.{before, skip_blanks, word_at}
+use Rattle.git_attributes.specs.Words.{skip_blanks, word_at}
 
 -- The paths that match a pattern get these states. The pattern is that of a file in this folder.
 pub record Rule : Type 0 where
@@ -25,19 +24,6 @@ pub record Macro : Type 0 where
 pub data Line : Type 0 where
   RuleLine : Rule → Line
   MacroLine : Macro → Line
-
-abbrev pub is_slash : ℕ → Bool
-is_slash b = b == 47
-
-abbrev pub has_slash : List ℕ → Bool
-has_slash text = list_any is_slash text
-
-abbrev pub ends_in_slash : List ℕ → Bool
-ends_in_slash text = slice_index text (length text - 1) == 47
-
-abbrev pub without_slash : List ℕ → List ℕ
-without_slash [] = []
-without_slash (b ∷ rest) = if b == 47 then rest else (b ∷ rest)
 
 -- A pattern without a slash is compared with the last name of a path. One that begins with `!` is left out, and one that ends in a
 -- slash matches no file.

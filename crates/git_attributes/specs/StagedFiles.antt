@@ -1,5 +1,5 @@
 -- The attribute files that are only in an index.
-use Rattle.std.specs.Prelude.{◌≡◌, ◌<◌, ◌⊎◌, ◌||◌, ℕ, Bool, true, false, List, [], ◌∷◌, ◌++◌, length, All}
+use Rattle.std.specs.Prelude.{◌≡◌, ◌<◌, ◌⊎◌, ◌||◌, ℕ, Bool, true, false, List, ◌∷◌, ◌++◌, length, All}
 use Rattle.std.specs.Cmp.Lexicographic.{slice_cmp}
 use Rattle.std.specs.List.{list_any, slice_index_or}
 use Rattle.std.specs.List.Sorted.{IsPermutation, IsSortedByKey}
@@ -10,9 +10,8 @@ use Rattle.status_index.specs.BlobId.{id_kind}
 use Rattle.status_index.specs.Entries.{IndexEntry, stage_of}
 use Rattle.git_objects.specs.Objects.{id_of_object}
 use Rattle.git_objects.specs.declared.object.ObjectKind.TheVariants.{Blob}
+use Rattle.git_patterns.specs.Text.{before, ends_in_slash}
 use Rattle.git_attributes.specs.Files.{File}
-use Rattle.git_attributes.specs.Lines.{ends_in_slash}
-use Rattle.git_attributes.specs.Words.{before}
 use Rattle.git_attributes.specs.WorktreeFiles.{file_path, is_top}
 
 -- The path of a folder: nothing for the worktree's top, and otherwise a slash is its last byte.

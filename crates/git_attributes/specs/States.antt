@@ -1,8 +1,9 @@
 -- The states that the attributes of a path have.
-use Rattle.std.specs.Prelude.{ℕ, ◌==◌, zero, suc, Bool, true, false, List, [], ◌∷◌, ◌++◌, length, take, drop, Option, Some, None, if◌then◌else◌}
+use Rattle.std.specs.Prelude.{ℕ, zero, suc, Bool, true, false, List, [], ◌∷◌, ◌++◌, length, Option, Some, None, if◌then◌else◌}
 use Rattle.std.specs.List.{list_any}
 use Rattle.std.specs.Option.{option_or}
 use Rattle.std.specs.Str.{bytes_eq}
+use Rattle.git_patterns.specs.Text.{below, name_of}
 use Rattle.git_patterns.specs.Wildmatch.{is_match}
 use Rattle.git_attributes.specs.Assignments.{Given, State, Set, Unspecified}
 use Rattle.git_attributes.specs.Lines.{Macro, Rule}
@@ -55,18 +56,6 @@ state_in name [] = Unspecified
 state_in name (given ∷ rest) = if bytes_eq given.0 name then given.1 else state_in name rest
 
 -- ---- the rules of a path
-
--- The last name of a path: the text after its last slash.
-abbrev pub name_after : List ℕ → List ℕ → List ℕ
-name_after name [] = name
-name_after name (b ∷ rest) = if b == 47 then name_after rest rest else name_after name rest
-
-abbrev pub name_of : List ℕ → List ℕ
-name_of path = name_after path path
-
--- The path after the folder's, if it begins with that.
-abbrev pub below : List ℕ → List ℕ → Option (List ℕ)
-below folder path = if bytes_eq (take (length folder) path) folder then Some (drop (length folder) path) else None
 
 abbrev pub is_match_below : Rule → Option (List ℕ) → Bool
 is_match_below rule None = false

@@ -1,14 +1,6 @@
--- The parts of a line of an attributes file: words between blanks, and the text before a byte.
+-- The words of a line of an attributes file, between blanks.
 use Rattle.std.specs.Prelude.{ℕ, ◌==◌, ◌||◌, Bool, List, [], ◌∷◌, take, drop, position, Option, Some, None, if◌then◌else◌}
-use Rattle.git_patterns.specs.Text.{first_at, len_to}
-
-abbrev pub front_to : Option ℕ → List ℕ → List ℕ
-front_to None text = text
-front_to (Some at) text = take at text
-
--- The text before the first of these bytes, or the whole text if it has none.
-abbrev pub before : ℕ → List ℕ → List ℕ
-before c text = front_to (first_at c text) text
+use Rattle.git_patterns.specs.Text.{len_to}
 
 -- Space, tab, LF and CR part words.
 abbrev pub is_blank : ℕ → Bool

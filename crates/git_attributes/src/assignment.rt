@@ -7,8 +7,8 @@ ghost use Rattle.git_attributes.specs.Views.{given_of, state_of, macro_view};
 ghost use Rattle.git_attributes.specs.States.{assigned, is_known, macro_named, state_in, unfolded};
 
 use crate::line::Macro;
-use crate::words::{before, skip_blanks, word_of};
-use git_patterns::text::{first_at, is_word};
+use crate::words::{skip_blanks, word_of};
+use git_patterns::text::{before, first_at, is_word};
 use std::alloc::{AllocError, Global};
 
 /// The state that a line assigns to an attribute.

@@ -2,13 +2,13 @@
 
 ghost use Rattle.std.specs.Prelude.{◌≡◌, [], IfOk, OnOk, map, option_map};
 ghost use Rattle.git_patterns.specs.Text.{first_at};
-ghost use Rattle.git_attributes.specs.Files.{line_step, split_line, states_of, with_file, with_line, without_cr, without_mark};
-ghost use Rattle.git_attributes.specs.States.{below, is_for, name_of};
+ghost use Rattle.git_attributes.specs.Files.{line_step, split_line, states_of, with_file, with_line};
+ghost use Rattle.git_attributes.specs.States.{is_for};
 ghost use Rattle.git_attributes.specs.Views.{attributes_view, given_of, line_view, rule_view, source_view};
 
 use crate::assignment::{Assignment, give};
 use crate::line::{Line, Macro, Rule, line_of};
-use git_patterns::text::first_at;
+use git_patterns::text::{below, first_at, name_of, without_cr, without_mark};
 use std::alloc::{AllocError, Global};
 
 /// An attribute file.
@@ -30,28 +30,6 @@ pub struct Attributes<'a> {
     macros: Vec<Macro<'a>>,
 }
 
-/// Returns the last name of a path: the text after its last slash.
-fn name_of(path: &[u8]) -> &[u8]
-    ensures { result.now ≡ name_of path.now }
-{
-    let mut name = path;
-    let mut rest = path;
-    'bytes: while let [byte, after @ ..] = rest {
-        if *byte == b'/' {
-            name = after;
-        }
-        rest = after;
-    }
-    name
-}
-
-/// Returns the path after a folder's, if a path begins with that.
-fn below<'p>(folder: &[u8], path: &'p [u8]) -> Option<&'p [u8]>
-    ensures { option_map (λ rest. rest.now) result ≡ below folder.now path.now }
-{
-    path.strip_prefix(folder)
-}
-
 /// Returns whether a rule is for a path.
 fn is_for(alloc: Global, rule: &Rule<'_>, path: &[u8]) -> Result<bool, AllocError>
     ensures { IfOk result (λ it. it ≡ is_for (rule_view rule.now) path.now) }
@@ -60,17 +38,6 @@ fn is_for(alloc: Global, rule: &Rule<'_>, path: &[u8]) -> Result<bool, AllocErro
         Some(rest) if rule.by_name => rule.pattern.matches(alloc, name_of(rest)),
         Some(rest) => rule.pattern.matches(alloc, rest),
         None => Ok(false),
-    }
-}
-
-/// Returns a line without a CR that ends it.
-fn without_cr(line: &[u8]) -> &[u8]
-    ensures { result.now ≡ without_cr line.now }
-{
-    if !line.is_empty() && line[line.len() - 1] == b'\r' {
-        &line[..line.len() - 1]
-    } else {
-        line
     }
 }
 
@@ -91,16 +58,6 @@ fn line_at(text: &[u8]) -> Option<(&[u8], &[u8])>
     match text {
         [] => None,
         [_, ..] => Some(split_line(text)),
-    }
-}
-
-/// Returns a file's bytes without a byte order mark that comes first.
-fn without_mark(bytes: &[u8]) -> &[u8]
-    ensures { result.now ≡ without_mark bytes.now }
-{
-    match bytes {
-        [0xEF, 0xBB, 0xBF, rest @ ..] => rest,
-        _ => bytes,
     }
 }
 

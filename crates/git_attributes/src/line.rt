@@ -2,13 +2,13 @@
 
 ghost use Rattle.std.specs.Prelude.{◌≡◌, IfOk, option_map};
 ghost use Rattle.git_patterns.specs.Views.{pattern_parts};
-ghost use Rattle.git_attributes.specs.Lines.{ends_in_slash, has_slash, line_at, macro_name, macro_of, pattern_of, plain_line_at, line_with_front, without_slash};
+ghost use Rattle.git_attributes.specs.Lines.{line_at, macro_name, macro_of, pattern_of, plain_line_at, line_with_front};
 ghost use Rattle.git_attributes.specs.Views.{line_view};
 
 use crate::assignment::{Assignment, assignments_of, is_name};
-use crate::words::{before, skip_blanks, unquoted, word_of};
+use crate::words::{skip_blanks, unquoted, word_of};
 use git_patterns::Pattern;
-use git_patterns::text::begins_with;
+use git_patterns::text::{before, begins_with, ends_in_slash, has_slash, without_slash};
 use std::alloc::{AllocError, Global};
 
 /// As git does, a line of so many bytes or more is left out.
@@ -41,30 +41,6 @@ pub(crate) struct Macro<'a> {
 pub(crate) enum Line<'a> {
     Rule(Rule<'a>),
     Macro(Macro<'a>),
-}
-
-/// Returns whether a text has a slash.
-fn has_slash(text: &[u8]) -> bool
-    ensures { result ≡ has_slash text.now }
-{
-    text.iter().any(|byte| *byte == b'/')
-}
-
-/// Returns whether a text ends in a slash.
-pub(crate) fn ends_in_slash(text: &[u8]) -> bool
-    ensures { result ≡ ends_in_slash text.now }
-{
-    !text.is_empty() && text[text.len() - 1] == b'/'
-}
-
-/// Returns a text without a slash that comes first.
-fn without_slash(text: &[u8]) -> &[u8]
-    ensures { result.now ≡ without_slash text.now }
-{
-    match text {
-        [b'/', rest @ ..] => rest,
-        _ => text,
-    }
 }
 
 /// Returns whether a pattern is compared with the last name of a path, and the pattern. None if it begins with `!`, which

@@ -14,11 +14,9 @@ ghost use Rattle.git_attributes.specs.WorktreeFiles.{file_path};
 
 use crate::fault::AttributeFault;
 use crate::files::{AttributeFile, AttributeFiles, append};
-use crate::line::ends_in_slash;
-use crate::words::before;
 use crate::worktree_files::{ATTRIBUTES_LIMIT, NAME};
 use git_objects::{ObjectFault, ObjectKind, ReadObject};
-use git_patterns::text::is_word;
+use git_patterns::text::{before, ends_in_slash, is_word};
 use status_index::{Entry, ObjectId, PathStorage, State};
 use std::alloc::{AllocError, Global};
 

@@ -1,21 +1,10 @@
 //! The words of a line, between blanks or in quotes.
 
 ghost use Rattle.std.specs.Prelude.{◌≡◌, option_map, IfOk};
-ghost use Rattle.git_attributes.specs.Words.{before, blank_at, is_blank, skip_blanks, word_at, word_len};
+ghost use Rattle.git_attributes.specs.Words.{blank_at, is_blank, skip_blanks, word_at, word_len};
 ghost use Rattle.git_attributes.specs.Quoted.{escape_at, octal_at, octal_digit, quoted_at, unquoted};
 
-use git_patterns::text::first_at;
 use std::alloc::{AllocError, Global};
-
-/// Returns what comes before the first of these bytes, or the whole text if it has none.
-pub(crate) fn before(byte: u8, text: &[u8]) -> &[u8]
-    ensures { result.now ≡ before byte text.now }
-{
-    match first_at(byte, text) {
-        Some(at) => &text[..at],
-        None => text,
-    }
-}
 
 /// Returns whether a byte parts words.
 fn is_blank(byte: u8) -> bool

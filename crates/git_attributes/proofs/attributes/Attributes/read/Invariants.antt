@@ -1,6 +1,7 @@
 use Rattle.std.proofs.Common.{◌≡◌, length}
 use Rattle.git_patterns.proofs.Items.{all}
-use Rattle.git_attributes.specs.Files.{line_step, with_lines, without_mark}
+use Rattle.git_patterns.specs.Text.{without_mark}
+use Rattle.git_attributes.specs.Files.{line_step, with_lines}
 use Rattle.git_attributes.specs.Views.{attributes_view}
 use Rattle.git_attributes.proofs.attributes.Attributes.read.Given as goal
 

@@ -1,0 +1,4 @@
+mod Below
+mod Deciding
+mod Lines
+mod Trimming

@@ -1,0 +1,3 @@
+pub mod Excluded
+pub mod Rules
+pub mod Views
