@@ -93,9 +93,8 @@ fn has_one_above(index: &State, selected: &[Selected<'_>]) -> bool {
         })
 }
 
-/// Returns whether a folder is at a path that ends with a slash.
+/// Returns whether a folder is at a path that ends with a slash, or at the end of links there, as in git.
 fn is_folder_there<W: Worktree>(worktree: &W, path: &[u8]) -> bool {
-    let path = path.strip_suffix(b"/").unwrap_or(path);
     matches!(worktree.lstat(BStr::new(path)), Ok(node) if node.kind == NodeKind::Directory)
 }
 
