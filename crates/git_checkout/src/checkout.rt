@@ -125,49 +125,98 @@ where
     let read = read_for(request, alloc, &file.bytes, &settings)?;
     let worktree = worktree_at(rt, top, request.enter)?;
     let made = whole_index(rt, &repository, &read, &worktree, &head, &selected)?;
-    let read = match &made {
-        Some(bytes) => ReadIndex::of(alloc, bytes, &settings)?,
-        None => read,
+    let found = Found {
+        repository: &repository,
+        selected: &selected,
+        head: &head,
+        worktree: &worktree,
+        file: &file,
+        is_remade: made.is_some(),
     };
-    check_each(alloc, &read.file.state, &worktree, &head, &selected)?;
-    let modules = modules_of(rt, &repository, &read.file.state, &head)?;
+    let Some(bytes) = made else {
+        return run_over(rt, request, found, settings, read, output, faults);
+    };
+    let whole = ReadIndex::of(alloc, &bytes, &settings)?;
+    run_over(rt, request, found, settings, whole, output, faults)
+}
+
+/// What a request is about: a repository with its worktree, the selected paths, HEAD, and the index file.
+#[derive(Clone, Copy)]
+struct Found<'x, R: Files> {
+    repository: &'x Repository,
+    selected: &'x [Selected<'x>],
+    head: &'x Option<HeadCommit<'x, R>>,
+    worktree: &'x DiskWorktree<&'x R>,
+    file: &'x FoundIndex,
+    /// Whether another index than that of the file is compared.
+    is_remade: bool,
+}
+
+/// Does the same over an index that was read.
+///
+/// # Errors
+/// A setting or HEAD can't be read, a path selects nothing, or the index can't be refreshed.
+fn run_over<'x, R: AllocGlobal + Env + Files + Sync + Threads + Wait, O: io::Write, E: io::Write>(
+    rt: &'x R,
+    request: &Request<'_>,
+    found: Found<'x, R>,
+    settings: Settings,
+    read: ReadIndex<'_>,
+    output: &mut O,
+    faults: &mut E,
+) -> Result<u8, Refused>
+where
+    R::File: FileExt + Send + Sync,
+    R::Dir: Send,
+    requires { IsRead settings read }
+{
+    let alloc = rt.alloc();
+    let Found {
+        repository,
+        selected,
+        head,
+        worktree,
+        file,
+        is_remade,
+    } = found;
+    let top = repository.top.as_str();
+    let index = &read.file.state;
+    check_each(alloc, index, worktree, head, selected)?;
+    let modules = modules_of(rt, repository, index, head)?;
     let ignored = IgnoredSubmodules::new(alloc, &modules, &repository.config)?;
     let Exceptions {
         left_out,
         intended,
         illformed,
-    } = Exceptions::of(alloc, &read.file.state, &worktree, &selected, &ignored)?;
-    let tops = tops_of(alloc, &selected)?;
-    let staged_tops = tops_of(alloc, &selected)?;
-    let objects = LazyObjects {
-        rt,
-        repository: &repository,
-    };
+    } = Exceptions::of(alloc, index, worktree, selected, &ignored)?;
+    let tops = tops_of(alloc, selected)?;
+    let staged_tops = tops_of(alloc, selected)?;
+    let objects = LazyObjects { rt, repository };
     let attributes = AskedFor {
-        worktree: &worktree,
-        is_cone: has_cone(&repository),
+        worktree,
+        is_cone: has_cone(repository),
         files: WithStaged {
-            others: GitAttributeFiles::new(rt, &repository)?,
+            others: GitAttributeFiles::new(rt, repository)?,
             objects: &objects,
         },
     };
     let asked = Asked {
         settings,
-        worktree: &worktree,
+        worktree,
         submodules: SubmoduleHeads::new(rt, top, &ignored),
         paths: Paths {
             tops: &tops,
             left_out: &left_out,
         },
         attributes,
-        head: &head,
+        head,
     };
     let begun = if request.refresh {
         Some(time_of_lock(rt, repository.index.as_str()))
     } else {
         None
     };
-    let untracked = untracked_of(alloc, &read.file.state, &selected)?;
+    let untracked = untracked_of(alloc, index, selected)?;
     let nested = Nested {
         top,
         tops: &staged_tops,
@@ -183,7 +232,7 @@ where
     if compared.status == FAILED {
         return Ok(FAILED);
     }
-    note_unread(request, &repository, &ignored, faults);
+    note_unread(request, repository, &ignored, faults);
     if !illformed.is_empty() {
         return Ok(print_illformed(alloc, &illformed, faults));
     }
@@ -191,9 +240,9 @@ where
         return Ok(compared.status);
     };
     let refresh = Refresh {
-        repository: &repository,
-        old: &file,
-        is_remade: made.is_some(),
+        repository,
+        old: file,
+        is_remade,
         begun,
     };
     refresh.end(rt, compared)

@@ -55,12 +55,13 @@ where
     };
     let settings = settings_of(&repository, request, file.timestamp);
     let read = ReadIndex::of(alloc, &file.bytes, &settings)?;
-    let made = whole_index(rt, &repository, &read, &nowhere, &head, &selected)?;
-    let read = match &made {
-        Some(bytes) => ReadIndex::of(alloc, bytes, &settings)?,
-        None => read,
+    let Some(bytes) = whole_index(rt, &repository, &read, &nowhere, &head, &selected)? else {
+        let index = &read.file.state;
+        check_each(alloc, index, &nowhere, &head, &selected)?;
+        return print_columns(alloc, request, &repository, index, &head, &selected, output);
     };
-    let index = &read.file.state;
+    let whole = ReadIndex::of(alloc, &bytes, &settings)?;
+    let index = &whole.file.state;
     check_each(alloc, index, &nowhere, &head, &selected)?;
     print_columns(alloc, request, &repository, index, &head, &selected, output)
 }
