@@ -50,7 +50,11 @@ where
         };
         let object = self.objects.read(tree)?;
         let mut rest = object.bytes.as_slice();
-        while let Some(first) = FirstItem::of_tree(tree.kind(), rest)? {
+        // Each item has bytes.
+        for _ in 0..object.bytes.len() {
+            let Some(first) = FirstItem::of_tree(tree.kind(), rest)? else {
+                return Ok(None);
+            };
             if first.item.name == name {
                 return Ok(Some(first.item.id));
             }
