@@ -140,7 +140,7 @@ where
     run_over(rt, request, found, settings, whole, output, faults)
 }
 
-/// What a request is about: a repository with its worktree, the selected paths, HEAD, and the index file.
+/// The subject of a request: a repository with its worktree, the selected paths, HEAD, and the index file.
 #[derive(Clone, Copy)]
 struct Found<'x, R: Files> {
     repository: &'x Repository,
