@@ -1,6 +1,6 @@
 //! The rules of ignore files, and which paths they exclude.
 
-ghost use Rattle.std.specs.Prelude.{◌≡◌, ◌++◌, [], IfOk, OnErr, OnOk, map, option_map};
+ghost use Rattle.std.specs.Prelude.{◌≡◌, ◌++◌, [], IfOk, OnErr, OnOk, length, map, option_map, take};
 ghost use Rattle.git_patterns.specs.Text.{first_at};
 ghost use Rattle.git_ignore.specs.Excluded.{is_excluded, is_matched};
 ghost use Rattle.git_ignore.specs.Rules.{line_step, rules_of, split_line};
@@ -77,6 +77,20 @@ impl IgnoreRules {
     {
         let mut more = rules_of(alloc, folder, bytes)?;
         self.rules.append(&mut more)
+    }
+
+    /// Returns the number of rules.
+    pub fn count(&self) -> usize
+        ensures { result ≡ length (rules_view self.now) }
+    {
+        self.rules.len()
+    }
+
+    /// Removes the rules after the first `count`.
+    pub fn truncate(&mut self, count: usize)
+        ensures { rules_view self.new ≡ take count (rules_view self.old) }
+    {
+        self.rules.truncate(count)
     }
 
     /// Returns whether the last rule that is for a path excludes it. False if no rule is for it.

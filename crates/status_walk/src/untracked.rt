@@ -132,7 +132,7 @@ fn is_untracked<P: Pathspec>(index: &State, pathspec: &P, path: BStr<'_>) -> boo
 }
 
 /// Returns whether an entry has this path.
-pub(crate) fn is_tracked(index: &State, path: BStr<'_>) -> bool
+pub fn is_tracked(index: &State, path: BStr<'_>) -> bool
     ensures { result ≡ is_tracked (index_of index.now) (bstr_bytes path.entry) }
 {
     !index.entries_at(path).is_empty()
@@ -152,7 +152,7 @@ fn is_below_submodule(index: &State, path: BStr<'_>) -> bool
 }
 
 /// Returns whether an entry of this path is a submodule's.
-pub(crate) fn is_submodule(index: &State, path: BStr<'_>) -> bool
+pub fn is_submodule(index: &State, path: BStr<'_>) -> bool
     ensures { result ≡ is_submodule_at (index_of index.now) (bstr_bytes path.entry) }
 {
     has_submodule(index.entries_at(path))
