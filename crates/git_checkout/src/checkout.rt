@@ -4,12 +4,13 @@ ghost use Rattle.std.specs.Prelude.{IfOk};
 ghost use Rattle.git_status.specs.Reads.{IsRead};
 
 use crate::attributes::{AskedFor, has_cone};
+use crate::folders::DiskFolders;
 use crate::head::{HeadCommit, head_at};
 use crate::index_file::{FoundIndex, read_index_file};
 use crate::objects::{LazyObjects, modules_of};
 use crate::refresh::Refresh;
 use crate::refused::{Illformed, Refused};
-use crate::request::{Columns, Request, Selected, selected_by};
+use crate::request::{Columns, Request, Selected, UntrackedFiles, selected_by};
 use crate::selection::{Exceptions, check_each, tops_of, untracked_of};
 use crate::sparse::whole_index;
 use crate::staged::run_staged;
@@ -17,13 +18,14 @@ use git_attributes::{AttributeFiles, WithStaged};
 use git_explain::{Wanted, run_explain};
 use git_repository::{
     GitAttributeFiles, IgnoredSubmodules, IntendedWorktree, Repository, SubmoduleHeads,
-    time_of_lock,
+    outer_ignore_files, time_of_lock,
 };
 use git_status::lines::LineStyle;
 use git_status::{
-    Asked, Failure, Paths, ReadIndex, Refreshed, Settings, Top, print_failure, run_dirty,
-    run_refresh,
+    Asked, Failure, FindBeside, Paths, ReadIndex, Refreshed, Searches, Settings, Top, Tops,
+    print_failure, run_dirty, run_refresh,
 };
+use git_untracked::Untracked;
 use status_base::worktree::{DiskWorktree, Pathspec, StatFields, SubmoduleStatus, Worktree};
 use status_call::index_as_worktree::{Capabilities, Options};
 use status_index::{Moment, State, stat};
@@ -114,22 +116,30 @@ where
     let top = repository.top.as_str();
     let selected = selected_by(rt, &repository, &request.paths)?;
     let head = head_of_request(rt, &repository, request)?;
-    let Some(file) = read_index_file(rt, &repository)? else {
-        check_without_index(rt, top, &head, &selected)?;
-        if head.is_some() {
-            return run_staged(rt, request, output);
+    let file = match read_index_file(rt, &repository)? {
+        Some(file) => file,
+        None if request.untracked != UntrackedFiles::No => {
+            FoundIndex::without_entries(alloc, repository.settings.kind)?
         }
-        return Ok(0);
+        None => {
+            check_without_index(rt, top, &head, &selected)?;
+            if head.is_some() {
+                return run_staged(rt, request, output);
+            }
+            return Ok(0);
+        }
     };
     let settings = settings_of(&repository, request, file.timestamp);
     let read = read_for(request, alloc, &file.bytes, &settings)?;
-    let worktree = worktree_at(rt, top, request.enter)?;
+    let front = entered(rt, top, request.enter);
+    let worktree = git_worktree(rt, front)?;
     let made = whole_index(rt, &repository, &read, &worktree, &head, &selected)?;
     let found = Found {
         repository: &repository,
         selected: &selected,
         head: &head,
         worktree: &worktree,
+        front,
         file: &file,
         is_remade: made.is_some(),
     };
@@ -147,6 +157,8 @@ struct Found<'x, R: Files> {
     selected: &'x [Selected<'x>],
     head: &'x Option<HeadCommit<'x, R>>,
     worktree: &'x DiskWorktree<&'x R>,
+    /// The folder of the worktree, or nothing for the working folder.
+    front: &'x str,
     file: &'x FoundIndex,
     /// Whether another index than that of the file is compared.
     is_remade: bool,
@@ -176,6 +188,7 @@ where
         selected,
         head,
         worktree,
+        front,
         file,
         is_remade,
     } = found;
@@ -190,7 +203,6 @@ where
         illformed,
     } = Exceptions::of(alloc, index, worktree, selected, &ignored)?;
     let tops = tops_of(alloc, selected)?;
-    let staged_tops = tops_of(alloc, selected)?;
     let objects = LazyObjects { rt, repository };
     let attributes = AskedFor {
         worktree,
@@ -199,6 +211,27 @@ where
             others: GitAttributeFiles::new(rt, repository)?,
             objects: &objects,
         },
+    };
+    let nothing = State::new(alloc, Moment::default());
+    let head = head_at(
+        head,
+        Paths {
+            tops: &tops,
+            left_out: &nothing,
+        },
+    );
+    let folders = DiskFolders {
+        rt,
+        repository,
+        worktree,
+        top: front,
+        index,
+    };
+    let outer = outer_files_for(rt, request, repository)?;
+    let untracked = untracked_for(request, &folders, &tops, &outer);
+    let beside = Searches {
+        head: &head,
+        untracked: &untracked,
     };
     let asked = Asked {
         settings,
@@ -209,23 +242,22 @@ where
             left_out: &left_out,
         },
         attributes,
-        head,
+        beside: &beside,
     };
     let begun = if request.refresh {
         Some(time_of_lock(rt, repository.index.as_str()))
     } else {
         None
     };
-    let untracked = untracked_of(alloc, index, selected)?;
+    let unknown = untracked_of(alloc, index, selected)?;
     let nested = Nested {
         top,
-        tops: &staged_tops,
         intended: &intended,
         wanted: Wanted {
             all: !selected.is_empty(),
             json: request.json,
             left_out: &left_out,
-            untracked: &untracked,
+            untracked: &unknown,
         },
     };
     let compared = compare(rt, request, read, nested, asked, output, faults);
@@ -313,17 +345,51 @@ fn print_illformed<E: io::Write>(alloc: Global, paths: &[Vec<u8>], faults: &mut 
     FAILED
 }
 
-/// Returns the worktree that begins at `top`. As git does, the process enters it if it may: from there the system has the
-/// fewest steps to a file.
-fn worktree_at<'r, R: AllocGlobal + Env + Files>(
-    rt: &'r R,
-    top: &str,
-    enter: bool,
-) -> Result<DiskWorktree<&'r R>, AllocError> {
+/// Returns the folder of the worktree at `top`, or nothing if it is the working folder now. As git does, the process enters it if
+/// it may: from there the system has the fewest steps to a file.
+fn entered<'t, R: Env>(rt: &R, top: &'t str, enter: bool) -> &'t str {
     if enter && env::set_current_dir(rt, top).is_ok() {
-        return git_worktree(rt, "");
+        ""
+    } else {
+        top
     }
-    git_worktree(rt, top)
+}
+
+/// Returns the ignore files outside of the worktree, if untracked files are asked for.
+///
+/// # Errors
+/// A setting can't be read, git compares paths without regard to case, or out of memory.
+fn outer_files_for<R: AllocGlobal + Env + Files>(
+    rt: &R,
+    request: &Request<'_>,
+    repository: &Repository,
+) -> Result<Vec<Vec<u8>>, Refused> {
+    if request.untracked == UntrackedFiles::No {
+        return Ok(Vec::new(rt.alloc()));
+    }
+    if repository.settings.ignore_case {
+        return Err(Refused::IgnoresCase);
+    }
+    Ok(outer_ignore_files(rt, repository)?)
+}
+
+/// Returns the search for untracked files, if they are asked for.
+fn untracked_for<'a, F>(
+    request: &Request<'_>,
+    folders: &'a F,
+    tops: &'a [Top<'a>],
+    outer: &'a [Vec<u8>],
+) -> Option<Untracked<'a, F, Tops<'a>>> {
+    if request.untracked == UntrackedFiles::No {
+        return None;
+    }
+    Some(Untracked {
+        folders,
+        paths: Tops { tops },
+        outer,
+        all: request.untracked == UntrackedFiles::All,
+        ignored: request.ignored,
+    })
 }
 
 /// Returns the worktree that begins at `top`, with all that git records of a file.
@@ -339,8 +405,6 @@ pub(crate) fn git_worktree<'r, R: AllocGlobal + Files>(
 struct Nested<'x> {
     /// The worktree's folder.
     top: &'x str,
-    /// The paths at which the index is compared with HEAD.
-    tops: &'x [Top<'x>],
     /// The entries at whose paths they count.
     intended: &'x State,
     /// Which paths are explained, if that is asked for.
@@ -357,6 +421,7 @@ fn compare<
     S: SubmoduleStatus + Send,
     P: Pathspec + Send,
     A: AttributeFiles + Send,
+    B: FindBeside + Sync,
     O: io::Write,
     E: io::Write,
 >(
@@ -364,7 +429,7 @@ fn compare<
     request: &Request<'_>,
     read: ReadIndex<'b>,
     nested: Nested<'x>,
-    asked: Asked<'x, W, S, P, A, Option<HeadCommit<'x, R>>>,
+    asked: Asked<'x, W, S, P, A, B>,
     output: &mut O,
     faults: &mut E,
 ) -> Refreshed<'b>
@@ -381,19 +446,13 @@ where
         worktree: asked.worktree,
         intended: nested.intended,
     };
-    let nothing = State::new(rt.alloc(), Moment::default());
-    let paths = Paths {
-        tops: nested.tops,
-        left_out: &nothing,
-    };
-    let beside = head_at(asked.head, paths);
     let asked = Asked {
         settings: asked.settings,
         worktree: &worktree,
         submodules: asked.submodules,
         paths: asked.paths,
         attributes: asked.attributes,
-        head: &beside,
+        beside: asked.beside,
     };
     if request.refresh && !request.explain {
         return if request.quiet {

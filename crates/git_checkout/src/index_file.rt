@@ -1,10 +1,12 @@
 //! The index file before the call.
 
 use crate::refused::Refused;
+use git_index::write_index;
 use git_repository::regular::INDEX_LIMIT;
 use git_repository::{RegularFile, Repository, Unread, read_regular};
 use status_base::worktree::StatFields;
-use status_index::Moment;
+use status_index::{HashKind, Moment, State};
+use std::alloc::{AllocError, Global};
 use std::fs::Metadata;
 use std::io;
 use std::rt::Files;
@@ -19,6 +21,21 @@ pub struct FoundIndex {
     pub timestamp: Moment,
     /// When it was last changed, as the system counts it. None if that isn't known.
     pub modified: Option<SystemTime>,
+}
+
+impl FoundIndex {
+    /// Returns the index file of a repository that has none: one without entries.
+    ///
+    /// # Errors
+    /// Out of memory.
+    pub fn without_entries(alloc: Global, kind: HashKind) -> Result<FoundIndex, AllocError> {
+        let timestamp = Moment::default();
+        Ok(FoundIndex {
+            bytes: write_index(alloc, kind, 2, &State::new(alloc, timestamp), b"", false)?,
+            timestamp,
+            modified: None,
+        })
+    }
 }
 
 /// Reads a repository's index file. None if there is none, as before the first `git add`. The time is read before the bytes:

@@ -5,12 +5,14 @@
 //! the repository, read HEAD's commit (`head`, which asks `replaced` whether git reads other objects), read the index
 //! file (`index_file`), make that of a sparse checkout whole (`sparse`) and choose its entries (`selection`). `staged` is
 //! the call for the first column alone. The contract of the comparison is that of `run_dirty` in the crate git_status.
-//! `objects` reads what git reads of the index if the worktree has no file, and `attributes` chooses such attribute files. `refresh` writes the new index file, and
-//! `refused` is why a call can't begin.
+//! `objects` reads what git reads of the index if the worktree has no file, and `attributes` chooses such attribute files.
+//! `folders` lists the worktree for untracked files. `refresh` writes the new index file, and `refused` is why a call can't
+//! begin.
 #![tactic(auto)]
 
 mod attributes;
 pub mod checkout;
+mod folders;
 mod head;
 mod index_file;
 mod objects;
@@ -23,4 +25,4 @@ mod sparse;
 mod staged;
 
 pub use checkout::{is_dirty, run};
-pub use request::{Columns, Request};
+pub use request::{Columns, Request, UntrackedFiles};

@@ -55,6 +55,8 @@ pub enum Refused {
         /// Why it isn't read.
         fault: TreeFault,
     },
+    /// The settings say that git compares paths without regard to case.
+    IgnoresCase,
     /// The time of the index file isn't known.
     Clock,
     /// Memory ran out.
@@ -115,6 +117,9 @@ impl fmt::Display for Refused {
             Refused::Objects { reason } => write!(
                 f,
                 "the index isn't compared with HEAD, since {reason}: --worktree compares the files alone"
+            ),
+            Refused::IgnoresCase => f.write_str(
+                "untracked files aren't listed, since core.ignoreCase is true: without -u only tracked files are compared"
             ),
             Refused::NoCommit => f.write_str("HEAD isn't a commit"),
             Refused::Object(fault) => write!(f, "can't read HEAD's commit: {fault}"),

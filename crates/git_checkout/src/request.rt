@@ -16,6 +16,17 @@ pub enum Columns {
     Worktree,
 }
 
+/// The untracked files that are listed, as git's option `--untracked-files` has it.
+#[derive(Clone, Copy, Debug, PartialEq, Eq)]
+pub enum UntrackedFiles {
+    /// None.
+    No,
+    /// Files, and folders without a tracked file in place of the files in them.
+    Normal,
+    /// Each file.
+    All,
+}
+
 /// The options of a call, as those of the command line of `git dirty`.
 #[derive(Drop)]
 pub struct Request<'a> {
@@ -23,6 +34,10 @@ pub struct Request<'a> {
     pub folder: &'a str,
     /// The columns.
     pub columns: Columns,
+    /// The untracked files. If the first column alone is asked for, there are none.
+    pub untracked: UntrackedFiles,
+    /// Whether ignored files are listed too, if untracked ones are.
+    pub ignored: bool,
     /// Whether lines end with a zero byte, and paths aren't quoted.
     pub zero: bool,
     /// Whether nothing is printed, and files are compared only up to the first difference, unless the index is refreshed.
@@ -51,6 +66,8 @@ impl<'a> Request<'a> {
         Request {
             folder,
             columns: Columns::Both,
+            untracked: UntrackedFiles::No,
+            ignored: false,
             zero: false,
             quiet: false,
             refresh: false,

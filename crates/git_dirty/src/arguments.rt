@@ -1,7 +1,7 @@
 //! The command line.
 
 use clap::{Arg, ArgAction, ArgMatches, Command, value_parser};
-use git_checkout::{Columns, Request};
+use git_checkout::{Columns, Request, UntrackedFiles};
 use std::alloc::{AllocError, Global};
 
 /// The day of the newest section of `CHANGELOG.md`: there are no releases to name.
@@ -37,6 +37,8 @@ pub fn request_of<'a>(alloc: Global, matches: &ArgMatches<'a>) -> Result<Request
     };
     Ok(Request {
         columns: columns_of(matches),
+        untracked: untracked_of(matches),
+        ignored: matches.get_flag("ignored"),
         zero: matches.get_flag("zero"),
         quiet: matches.get_flag("quiet"),
         refresh: matches.get_flag("refresh"),

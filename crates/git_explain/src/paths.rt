@@ -13,8 +13,7 @@ use crate::json::{push_json, push_other_json};
 use crate::text::{push_other, push_text};
 use bstr::BStr;
 use git_attributes::{AttributeFiles, FolderSearch, LineEnds, attributes_of};
-use git_staged::FindStaged;
-use git_status::{Asked, Failure, Question};
+use git_status::{Asked, Failure, FindBeside, Question};
 use status_base::worktree::{GuardedWorktree, Pathspec, SubmoduleStatus, Worktree};
 use status_index::{Entry, State};
 use std::alloc::{AllocError, Global};
@@ -54,14 +53,14 @@ pub(crate) fn explain_each<
     S: SubmoduleStatus,
     P: Pathspec,
     A: AttributeFiles,
-    H: FindStaged,
+    B: FindBeside,
 >(
     alloc: Global,
     index: &State,
-    asked: Asked<'a, W, S, P, A, H>,
+    asked: Asked<'a, W, S, P, A, B>,
     wanted: Wanted<'_>,
 ) -> Result<Explanations, Failure>
-    ensures { IfOk result (λ found. AreExplained (⟦<Asked<'a, W, S, P, A, H> as Question>⟧.asking asked.entry) (P.included asked.entry.paths) index.now found.differs found.failed) }
+    ensures { IfOk result (λ found. AreExplained (⟦<Asked<'a, W, S, P, A, B> as Question>⟧.asking asked.entry) (P.included asked.entry.paths) index.now found.differs found.failed) }
 {
     let within = FolderSearch::new(alloc, asked.worktree, index).find()?;
     let files = asked.attributes.with_others(alloc, index, within)?;

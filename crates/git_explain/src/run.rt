@@ -6,8 +6,7 @@ ghost use Rattle.git_status.specs.Printing.{IsFaultLine};
 
 use crate::paths::{Wanted, explain_each};
 use git_attributes::AttributeFiles;
-use git_staged::FindStaged;
-use git_status::{Asked, Question, print_failure};
+use git_status::{Asked, FindBeside, Question, print_failure};
 use status_base::worktree::{Pathspec, SubmoduleStatus, Worktree};
 use status_index::State;
 use std::alloc::Global;
@@ -23,13 +22,13 @@ pub fn run_explain<
     S: SubmoduleStatus,
     P: Pathspec,
     A: AttributeFiles,
-    H: FindStaged,
+    B: FindBeside,
     O: io::Write,
     E: io::Write,
 >(
     alloc: Global,
     index: &State,
-    asked: Asked<'a, W, S, P, A, H>,
+    asked: Asked<'a, W, S, P, A, B>,
     wanted: Wanted<'_>,
     output: &mut O,
     faults: &mut E,
@@ -37,7 +36,7 @@ pub fn run_explain<
     ensures status { (result ≡ 0) ⊎ ((result ≡ 1) ⊎ (result ≡ 2)) }
     ensures line { result ≡ 2 → IsFaultLine (E.contents faults.old) (E.contents faults.new) }
     ensures quiet { result ≢ 2 → E.contents faults.new ≡ E.contents faults.old }
-    ensures explained { result ≢ 2 → AreExplained (⟦<Asked<'a, W, S, P, A, H> as Question>⟧.asking asked.entry) (P.included asked.entry.paths) index.now (result == 1) false }
+    ensures explained { result ≢ 2 → AreExplained (⟦<Asked<'a, W, S, P, A, B> as Question>⟧.asking asked.entry) (P.included asked.entry.paths) index.now (result == 1) false }
 {
     let found = match explain_each(alloc, index, asked, wanted) {
         Ok(found) => found,

@@ -3,8 +3,8 @@
 //! Read `location` first, which finds the repository of a folder by `git_dir`. `settings` are those that a status depends
 //! on, with `format`, from what `sources` names and `parameters` reads. `config` has git's configuration, which `reader`
 //! reads by `state`, and `values` reads a variable's value. `intended` is a worktree in which nested repositories count.
-//! `attribute_files` finds the attribute files: those of the worktree, and those that `outer_attributes` names.
-//! `submodules` compares the heads of submodules, which `heads` finds. `regular` opens files, and `files` reads small ones.
+//! `attribute_files` finds the attribute files: those of the worktree, and those that `outer_attributes` names. `ignore_files`
+//! reads ignore files, `user_files` finds the files of the user, and `nested` other repositories in a worktree. `submodules` compares the heads of submodules, which `heads` finds. `regular` opens files, and `files` reads small ones.
 //! `lock` replaces the index file, and `error` has the errors.
 #![tactic(auto)]
 
@@ -15,10 +15,12 @@ mod files;
 mod format;
 mod git_dir;
 mod heads;
+pub mod ignore_files;
 pub mod ignored;
 pub mod intended;
 pub mod location;
 mod lock;
+mod nested;
 mod outer_attributes;
 mod parameters;
 pub mod reader;
@@ -27,16 +29,19 @@ pub mod settings;
 mod sources;
 mod state;
 pub mod submodules;
+mod user_files;
 pub mod values;
 
 pub use attribute_files::GitAttributeFiles;
 pub use config::{Config, ConfigError, Variable};
 pub use error::RepositoryError;
 pub use heads::head_of;
+pub use ignore_files::{IGNORE_LIMIT, outer_ignore_files};
 pub use ignored::{IgnoredSubmodules, MODULES, ModulesFile};
 pub use intended::IntendedWorktree;
 pub use location::Repository;
 pub use lock::{replace_index, time_of_lock};
+pub use nested::is_repository;
 pub use reader::read_config;
 pub use regular::{RegularFile, Unread, read_regular};
 pub use settings::{OwnSettings, Settings, read_own, read_settings};

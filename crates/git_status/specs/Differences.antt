@@ -13,8 +13,8 @@ use Rattle.status_call.specs.declared.index_as_worktree.types.Finding.{Finding}
 use Rattle.status_index.specs.Entries.{IndexEntry}
 use Rattle.status_index.specs.States.{index_of}
 use Rattle.status_index.specs.declared.state.State.{State}
-use Rattle.git_staged.specs.declared.letters.Letter.{Letter}
-use Rattle.git_status.specs.Lines.{Row, row_lines, status_row, with_staged}
+use Rattle.git_status.specs.Besides.{Beside, beside_text}
+use Rattle.git_status.specs.Lines.{Row, status_row}
 use Rattle.git_status.specs.Runs.{Asking, IsExit, ReadFile, SeenBy, seen_query}
 use Rattle.git_status.specs.declared.lines.LineStyle.{LineStyle}
 
@@ -32,20 +32,20 @@ module _ {T U : Type 0} where
   abbrev pub difference_rows : Query T U → State → List Row
   difference_rows q index = flat_map (finding_row (index_of index)) (records_of q (start_of q index) (considered_entries q index))
 
-  -- The output grew by exactly the lines of what is staged and of the entries that differ, in the order of paths.
-  abbrev pub PrintsBoth : LineStyle → List (List ℕ × Letter) → Query T U → State → Option (List ℕ) → Option (List ℕ) → Type 0
-  PrintsBoth style staged q index old new = Appends old new (row_lines style (with_staged (difference_rows q index) staged))
+  -- The output grew by exactly the lines of what is staged and of the entries that differ, in the order of paths, and of what else was found.
+  abbrev pub PrintsBoth : LineStyle → Beside → Query T U → State → Option (List ℕ) → Option (List ℕ) → Type 0
+  PrintsBoth style beside q index old new = Appends old new (beside_text style beside (difference_rows q index))
 
-  -- The bytes are an index file, and such lines were printed of what was found to be staged.
+  -- The bytes are an index file, and such lines were printed of what was found beside its status.
   abbrev pub PrintsDifferences : Asking T U → LineStyle → List ℕ → Option (List ℕ) → Option (List ℕ) → Type 0
   PrintsDifferences a style bytes old new =
-      (read : ReadFile a bytes) × (staged : List (List ℕ × Letter)) × a.may_stage (index_of read.index) staged × PrintsBoth style staged (a.query read.converting.filter (settings a.settings.options read.index)) read.index old new
+      (read : ReadFile a bytes) × (beside : Beside) × a.may_find (index_of read.index) beside × PrintsBoth style beside (a.query read.converting.filter (settings a.settings.options read.index)) read.index old new
 
   -- The bytes are an index file, and such lines were printed, by what was seen of each entry.
   abbrev pub PrintsSeen : Asking T U → LineStyle → List ℕ → Option (List ℕ) → Option (List ℕ) → Type 0
   PrintsSeen a style bytes old new =
-      (read : ReadFile a bytes) × (staged : List (List ℕ × Letter)) × a.may_stage (index_of read.index) staged
-      × ∥ ((seen : SeenBy a read.index read.converting.filter) × PrintsBoth style staged (seen_query a read.index read.converting.filter seen) read.index old new) ∥₁
+      (read : ReadFile a bytes) × (beside : Beside) × a.may_find (index_of read.index) beside
+      × ∥ ((seen : SeenBy a read.index read.converting.filter) × PrintsBoth style beside (seen_query a read.index read.converting.filter seen) read.index old new) ∥₁
 
   -- Over a modelled worktree a command that ended with exit status 0 or 1 printed so, unless it is quiet.
   abbrev pub LinesLaw : Asking T U → List ℕ → Type 0

@@ -5,10 +5,12 @@ use Rattle.git_index.specs.declared.fault.IndexFileError.{IndexFileError}
 use Rattle.git_index.specs.declared.fault.IndexFileError.TheVariants as index
 use Rattle.git_staged.specs.declared.error.TreeFault.{TreeFault}
 use Rattle.git_staged.specs.declared.error.TreeFault.TheVariants as trees
+use Rattle.git_untracked.specs.declared.folders.FolderFault.{FolderFault}
+use Rattle.git_untracked.specs.declared.folders.FolderFault.TheVariants as folders
 use Rattle.status_compare.specs.declared.error.Error.{Error}
 use Rattle.status_compare.specs.declared.error.Error.TheVariants as errors
 use Rattle.git_status.specs.declared.failure.Failure.{Failure}
-use Rattle.git_status.specs.declared.failure.Failure.TheVariants.{Attributes, Head, Index, Status, Memory}
+use Rattle.git_status.specs.declared.failure.Failure.TheVariants.{Attributes, Head, Index, Status, Memory, Untracked}
 
 -- The failure for bytes that aren't an index file.
 abbrev pub failure_of_index : IndexFileError → Failure
@@ -31,6 +33,12 @@ failure_of_head trees.NotAscending = Head trees.NotAscending
 failure_of_head trees.MixedHash = Head trees.MixedHash
 failure_of_head trees.ManyItems = Head trees.ManyItems
 failure_of_head trees.TooDeep = Head trees.TooDeep
+
+-- The failure for the search for untracked files.
+abbrev pub failure_of_folders : FolderFault → Failure
+failure_of_folders folders.Memory = Memory
+failure_of_folders (folders.At path fault) = Untracked (folders.At path fault)
+failure_of_folders folders.TooDeep = Untracked folders.TooDeep
 
 -- The failure for attribute files.
 abbrev pub failure_of_attributes : AttributeFault → Failure

@@ -7,7 +7,7 @@ use Rattle.status_call.specs.MayReturn.{MayReturn}
 use Rattle.status_call.specs.Query.{Query}
 use Rattle.status_call.specs.Visits.{Visit}
 use Rattle.status_index.specs.declared.state.State.{State}
-use Rattle.git_staged.specs.Staged.{MayStage}
+use Rattle.git_status.specs.Besides.{MayFind}
 use Rattle.git_status.specs.Kept.{is_whole, kept_changes}
 use Rattle.git_index.specs.Refusals.{EndsWithChecksum}
 use Rattle.git_status.specs.Runs.{Asking, Converting, IsEarly, IsStatusRun}
@@ -24,12 +24,12 @@ module _ {T U : Type 0} where
 
   -- A status of this index was printed, with the changes that a refresh makes if they are wanted; or it failed; or memory ran out for the
   -- changes after it was printed.
-  abbrev pub IsFoundRun : Bool → MayStage → Said → Query T U → MayReturn U → State → Settings → Option (List ℕ) → Result Found Failure → Option (List ℕ) → Type 0
-  IsFoundRun wanted may_stage said query may index s old (Ok found) new = (run : IsStatusRun may_stage query may index s old (Ok found.report) new) × (wanted ≡ true → IsFoundIn said run.visits found)
-  IsFoundRun wanted may_stage said query may index s old (Err f) new = IsStatusRun may_stage query may index s old (Err f) new ⊎ ((r : Report) × IsStatusRun may_stage query may index s old (Ok r) new × (f ≡ Memory) × (wanted ≡ true))
+  abbrev pub IsFoundRun : Bool → MayFind → Said → Query T U → MayReturn U → State → Settings → Option (List ℕ) → Result Found Failure → Option (List ℕ) → Type 0
+  IsFoundRun wanted may_find said query may index s old (Ok found) new = (run : IsStatusRun may_find query may index s old (Ok found.report) new) × (wanted ≡ true → IsFoundIn said run.visits found)
+  IsFoundRun wanted may_find said query may index s old (Err f) new = IsStatusRun may_find query may index s old (Err f) new ⊎ ((r : Report) × IsStatusRun may_find query may index s old (Ok r) new × (f ≡ Memory) × (wanted ≡ true))
 
   -- The same for the index of a file with a right checksum, with line ends converted; or the command ended before it.
   unfoldable pub IsIndexFound : Bool → Asking T U → List ℕ → State → Option (List ℕ) → Result Found Failure → Option (List ℕ) → Type 0
   IsIndexFound wanted a bytes index old result new =
-      (EndsWithChecksum a.settings.kind bytes × ((c : Converting a index) × IsFoundRun wanted a.may_stage (attributes_of c.files) (a.query c.filter (settings a.settings.options index)) a.may_return index a.settings old result new))
+      (EndsWithChecksum a.settings.kind bytes × ((c : Converting a index) × IsFoundRun wanted a.may_find (attributes_of c.files) (a.query c.filter (settings a.settings.options index)) a.may_return index a.settings old result new))
       ⊎ (IsErrAnd result (IsEarly a.settings.kind bytes) × (new ≡ old))

@@ -1,3 +1,4 @@
+pub mod Besides
 pub mod Differences
 pub mod Failures
 pub mod Founds

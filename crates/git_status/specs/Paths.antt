@@ -23,6 +23,14 @@ abbrev pub is_selected : List Top → List ℕ → Bool → Bool
 is_selected [] path is_dir = true
 is_selected (top ∷ more) path is_dir = list_any (is_within path is_dir) (top ∷ more)
 
+-- A path is that of a folder on the way to a selected path, which begins with it and goes on with a slash.
+abbrev pub is_above : List ℕ → Top → Bool
+is_above folder top = starts_with nat_eq top.path.now folder && is_component_end false (drop (length folder) top.path.now)
+
+-- A list selects a path below a folder by itself.
+abbrev pub leads : List Top → List ℕ → Bool
+leads tops folder = list_any (is_above folder) tops
+
 -- The prefix by which entries are searched: the list's only path, or nothing.
 abbrev pub search_prefix : List Top → List ℕ
 search_prefix (top ∷ []) = top.path.now

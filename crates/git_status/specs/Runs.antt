@@ -11,9 +11,9 @@ use Rattle.git_index.specs.File.{IsFileOf}
 use Rattle.git_index.specs.Refusals.{EndsWithChecksum}
 use Rattle.git_index.specs.declared.fault.IndexFileError.TheVariants.{Checksum}
 use Rattle.git_objects.specs.declared.fault.ObjectFault.{ObjectFault}
-use Rattle.git_staged.specs.Staged.{MayStage}
 use Rattle.git_staged.specs.declared.error.TreeFault.{TreeFault}
-use Rattle.git_staged.specs.declared.letters.Letter.{Letter}
+use Rattle.git_untracked.specs.declared.folders.FolderFault.{FolderFault}
+use Rattle.git_status.specs.Besides.{Beside, MayFind, beside_text, is_anything}
 use Rattle.git_status.specs.Lines.{differs, row_lines, visit_rows, with_staged}
 use Rattle.git_status.specs.declared.lines.LineStyle.{LineStyle}
 use Rattle.status_call.specs.MayReturn.{MayReturn}
@@ -39,14 +39,14 @@ use Rattle.git_status.specs.Printing.{IsUnwritten}
 use Rattle.git_status.specs.declared.asked.Settings.{Settings}
 use Rattle.git_status.specs.declared.answer.Report.{Report}
 use Rattle.git_status.specs.declared.failure.Failure.{Failure}
-use Rattle.git_status.specs.declared.failure.Failure.TheVariants.{Attributes, Head, Index, Interrupted, Memory}
+use Rattle.git_status.specs.declared.failure.Failure.TheVariants.{Attributes, Head, Index, Interrupted, Memory, Untracked}
 
--- How a worktree is compared with an index after line ends are converted, which attribute files may be found for an index, which
--- staged changes, and the settings.
+-- How a worktree is compared with an index after line ends are converted, which attribute files may be found for an index, what
+-- may be found beside its status, and the settings.
 pub record Asking (T U : Type 0) : Type 1 where
   pub query : LineEnds → StatusSettings → Query T U
   pub are_files : State → List File → Type 0
-  pub may_stage : MayStage
+  pub may_find : MayFind
   -- Which results the worktree and the submodules may return.
   pub may_return : MayReturn U
   pub settings : Settings
@@ -78,14 +78,22 @@ IsWrongChecksum kind bytes f = (f ≡ Index Checksum) × (EndsWithChecksum kind 
 abbrev pub IsHeadUnread : Failure → Type 0
 IsHeadUnread f = (fault : TreeFault) × (f ≡ Head fault)
 
+-- A folder in which untracked files are searched for can't be read.
+abbrev pub IsUntrackedUnread : Failure → Type 0
+IsUntrackedUnread f = (fault : FolderFault) × (f ≡ Untracked fault)
+
+-- Why staged changes and untracked files can't be found.
+abbrev pub IsUnfound : Failure → Type 0
+IsUnfound f = (f ≡ Memory) ⊎ (IsHeadUnread f ⊎ IsUntrackedUnread f)
+
 -- An attribute file that is only in the index can't be read.
 abbrev pub IsAttributesUnread : Failure → Type 0
 IsAttributesUnread f = (path : Vec ℕ Global) × (fault : ObjectFault) × (f ≡ Attributes path fault)
 
--- Why the command ends before anything is printed: memory ran out, the index file's checksum is wrong, or HEAD or an attribute file
--- can't be read.
+-- Why the command ends before anything is printed: memory ran out, the index file's checksum is wrong, or HEAD, an attribute file or a
+-- folder can't be read.
 abbrev pub IsEarly : HashKind → List ℕ → Failure → Type 0
-IsEarly kind bytes f = (f ≡ Memory) ⊎ (IsWrongChecksum kind bytes f ⊎ (IsHeadUnread f ⊎ IsAttributesUnread f))
+IsEarly kind bytes f = IsUnfound f ⊎ (IsWrongChecksum kind bytes f ⊎ IsAttributesUnread f)
 
 -- Memory ran out, and nothing was printed.
 abbrev pub IsOutOfMemory : Option (List ℕ) → Failure → Option (List ℕ) → Type 0
@@ -96,16 +104,17 @@ module _ {T U : Type 0} where
   abbrev pub is_difference : Visit T U → Bool
   is_difference v = differs v.status
 
-  -- The lines of what is staged and of records, in this style; nothing if the command is quiet.
-  abbrev pub printed_text : Option LineStyle → List (List ℕ × Letter) → List (Visit T U) → List ℕ
-  printed_text (Some style) staged visits = row_lines style (with_staged (visit_rows visits) staged)
-  printed_text None staged visits = []
+  -- The lines of what is staged and of records, and after them those of untracked and of ignored nodes, in this style; nothing if the
+  -- command is quiet.
+  abbrev pub printed_text : Option LineStyle → Beside → List (Visit T U) → List ℕ
+  printed_text (Some style) beside visits = beside_text style beside (visit_rows visits)
+  printed_text None beside visits = []
 
-  -- The command's report of a status: its outcome; it is dirty if a record is a difference or something is staged, and a status that
+  -- The command's report of a status: its outcome; it is dirty if a record is a difference, something is staged or a node is untracked, and a status that
   -- ended early has a difference.
-  pub record IsReport (staged : List (List ℕ × Letter)) (visits : List (Visit T U)) (answer : Result Outcome Error) (r : Report) : Type 0 where
+  pub record IsReport (beside : Beside) (visits : List (Visit T U)) (answer : Result Outcome Error) (r : Report) : Type 0 where
     pub outcome : answer ≡ Ok r.outcome
-    pub dirty : r.dirty ≡ (list_any is_difference visits || not (length staged == 0))
+    pub dirty : r.dirty ≡ (list_any is_difference visits || is_anything beside)
     pub early : r.outcome.interrupted ≡ true → list_any is_difference visits ≡ true
 
   -- Why a status has no report: it failed, or it ended early without a difference.
@@ -113,19 +122,19 @@ module _ {T U : Type 0} where
   IsUnreported visits answer f =
       ((e : Error) × (answer ≡ Err e) × (f ≡ failure_of_status e)) ⊎ ((o : Outcome) × (answer ≡ Ok o) × (o.interrupted ≡ true) × (list_any is_difference visits ≡ false) × (f ≡ Interrupted))
 
-  abbrev pub IsFound : List (List ℕ × Letter) → List (Visit T U) → Result Outcome Error → Result Report Failure → Type 0
-  IsFound staged visits answer (Ok r) = IsReport staged visits answer r
-  IsFound staged visits answer (Err f) = IsUnreported visits answer f
+  abbrev pub IsFound : Beside → List (Visit T U) → Result Outcome Error → Result Report Failure → Type 0
+  IsFound beside visits answer (Ok r) = IsReport beside visits answer r
+  IsFound beside visits answer (Err f) = IsUnreported visits answer f
 
   -- The command isn't quiet, and memory ran out before anything was printed, or the output can't be written after a beginning of the lines.
-  pub record IsPrintFailure (lines : Option LineStyle) (staged : List (List ℕ × Letter)) (visits : List (Visit T U)) (old new : Option (List ℕ)) (f : Failure) : Type 0 where
+  pub record IsPrintFailure (lines : Option LineStyle) (beside : Beside) (visits : List (Visit T U)) (old new : Option (List ℕ)) (f : Failure) : Type 0 where
     pub loud : is_some lines ≡ true
-    pub reason : IsOutOfMemory old f new ⊎ (IsUnwritten f × IsBegun (printed_text lines staged visits) old new)
+    pub reason : IsOutOfMemory old f new ⊎ (IsUnwritten f × IsBegun (printed_text lines beside visits) old new)
 
   -- All lines were printed, and this was found; or they can't be printed.
-  abbrev pub IsCommandEnd : Option LineStyle → List (List ℕ × Letter) → List (Visit T U) → Result Outcome Error → Option (List ℕ) → Result Report Failure → Option (List ℕ) → Type 0
-  IsCommandEnd lines staged visits answer old result new =
-      (Appends old new (printed_text lines staged visits) × IsFound staged visits answer result) ⊎ IsErrAnd result (IsPrintFailure lines staged visits old new)
+  abbrev pub IsCommandEnd : Option LineStyle → Beside → List (Visit T U) → Result Outcome Error → Option (List ℕ) → Result Report Failure → Option (List ℕ) → Type 0
+  IsCommandEnd lines beside visits answer old result new =
+      (Appends old new (printed_text lines beside visits) × IsFound beside visits answer result) ⊎ IsErrAnd result (IsPrintFailure lines beside visits old new)
 
   -- A status of this index was computed by this query, as the status theorem has it, and over any worktree by what was seen; it ends early
   -- only if the command is quiet; with one thread none is refused.
@@ -143,19 +152,19 @@ module _ {T U : Type 0} where
     pub whole : interruptible ≡ false → IfOk answer (λ o. o.interrupted ≡ false)
     pub alone : OneThreadSpawnsNone query limit answer
 
-  -- A status of this index was computed, and the command ended so, with what is staged.
-  pub record IsStatusRun (may_stage : MayStage) (query : Query T U) (may : MayReturn U) (index : State) (s : Settings) (old : Option (List ℕ)) (result : Result Report Failure) (new : Option (List ℕ)) : Type 0 where
-    pub staged : List (List ℕ × Letter)
-    pub found : may_stage (index_of index) staged
+  -- A status of this index was computed, and the command ended so, with what was found beside it.
+  pub record IsStatusRun (may_find : MayFind) (query : Query T U) (may : MayReturn U) (index : State) (s : Settings) (old : Option (List ℕ)) (result : Result Report Failure) (new : Option (List ℕ)) : Type 0 where
+    pub beside : Beside
+    pub found : may_find (index_of index) beside
     pub visits : List (Visit T U)
     pub answer : Result Outcome Error
     pub computed : IsComputed query may index s answer visits
-    pub ended : IsCommandEnd s.lines staged visits answer old result new
+    pub ended : IsCommandEnd s.lines beside visits answer old result new
 
   -- The status of an index that was read was printed.
   abbrev pub IsFileRun : Asking T U → List ℕ → Option (List ℕ) → Result Report Failure → Option (List ℕ) → Type 0
   IsFileRun a bytes old result new =
-      (read : ReadFile a bytes) × IsStatusRun a.may_stage (a.query read.converting.filter (settings a.settings.options read.index)) a.may_return read.index a.settings old result new
+      (read : ReadFile a bytes) × IsStatusRun a.may_find (a.query read.converting.filter (settings a.settings.options read.index)) a.may_return read.index a.settings old result new
 
   -- The result of the command over the bytes of an index file that was read, and a worktree.
   unfoldable pub IsCommandRun : Asking T U → List ℕ → Option (List ℕ) → Result Report Failure → Option (List ℕ) → Type 0
@@ -180,9 +189,13 @@ module _ {T U : Type 0} where
   abbrev pub NoneDiffers : Query T U → State → Type 0
   NoneDiffers query index = All (λ e. HasNoDifference (verdict query (considered_entries query index) e)) (considered_entries query index)
 
-  -- An index was read in which nothing is staged, and of which no considered entry differs from the worktree.
+  -- Nothing may be found to be staged or untracked.
+  abbrev pub IsNothingBeside : Asking T U → State → Type 0
+  IsNothingBeside a index = (beside : Beside) × a.may_find (index_of index) beside × (is_anything beside ≡ false)
+
+  -- An index was read beside whose status nothing was found, and of which no considered entry differs from the worktree.
   abbrev pub IsClean : Asking T U → List ℕ → Type 0
-  IsClean a bytes = (read : ReadFile a bytes) × a.may_stage (index_of read.index) [] × NoneDiffers (a.query read.converting.filter (settings a.settings.options read.index)) read.index
+  IsClean a bytes = (read : ReadFile a bytes) × IsNothingBeside a read.index × NoneDiffers (a.query read.converting.filter (settings a.settings.options read.index)) read.index
 
   -- A status of an index that was read, by what was seen of each considered entry.
   pub record SeenBy (a : Asking T U) (index : State) (filter : LineEnds) : Type 0 where
@@ -193,9 +206,9 @@ module _ {T U : Type 0} where
   abbrev pub seen_query : (a : Asking T U) (index : State) (filter : LineEnds) → SeenBy a index filter → Query T U
   seen_query a index filter seen = as_seen (a.query filter (settings a.settings.options index)) seen.views
 
-  -- An index was read in which nothing is staged, and of which no considered entry differs, by what was seen of each.
+  -- An index was read beside whose status nothing was found, and of which no considered entry differs, by what was seen of each.
   abbrev pub IsSeenClean : Asking T U → List ℕ → Type 0
-  IsSeenClean a bytes = (read : ReadFile a bytes) × a.may_stage (index_of read.index) [] × ∥ ((seen : SeenBy a read.index read.converting.filter) × NoneDiffers (seen_query a read.index read.converting.filter seen) read.index) ∥₁
+  IsSeenClean a bytes = (read : ReadFile a bytes) × IsNothingBeside a read.index × ∥ ((seen : SeenBy a read.index read.converting.filter) × NoneDiffers (seen_query a read.index read.converting.filter seen) read.index) ∥₁
 
   -- Over a modelled worktree, a command that ended with exit status 0 means this.
   abbrev pub CleanLaw : Asking T U → List ℕ → Type 0

@@ -4,15 +4,15 @@ ghost use Rattle.std.specs.Prelude.{◌≡◌, IfErr, IfOk, OnOk, map};
 ghost use Rattle.std.specs.Io.KnownBytes.{Appends};
 ghost use Rattle.std.specs.List.{list_any};
 ghost use Rattle.status_call.specs.RecorderVisits.{visit_of};
-ghost use Rattle.git_staged.specs.Staged.{staged_view};
+ghost use Rattle.git_status.specs.Besides.{beside_text, beside_view};
 ghost use Rattle.git_status.specs.Lines.{row_lines, visit_rows, with_staged};
 ghost use Rattle.git_status.specs.Runs.{IsCommandEnd, IsFound, IsPrintFailure, is_difference, printed_text};
 
+use crate::beside::{Beside, push_others};
 use crate::columns::{push_beside, push_each};
 use crate::failure::Failure;
 use crate::lines::{LineStyle, letters};
 use bstr::BString;
-use git_staged::Staged;
 use status_call::index_as_worktree::{Error, Outcome, Record};
 use std::alloc::{AllocError, Global};
 use std::io;
@@ -21,7 +21,7 @@ use text_output::print_all;
 /// The result of a status.
 #[derive(Debug, Drop)]
 pub struct Report {
-    /// Whether something is staged, or an entry differs from the worktree.
+    /// Whether something is staged, an entry differs from the worktree, or a node is untracked.
     pub dirty: bool,
     /// The counts of the status.
     pub outcome: Outcome,
@@ -29,43 +29,43 @@ pub struct Report {
     pub unconverted: Option<Vec<BString>>,
 }
 
-/// Prints the lines of what is staged and of a status's records, and returns what was found.
+/// Prints the lines of a status's records and of what was found beside them, and returns what was found.
 ///
 /// # Errors
 /// The output can't be written, or memory ran out; or those of `report_of`, after all lines were printed.
 pub(crate) fn print_answer<T: Drop, U: Drop, O: io::Write>(
     alloc: Global,
     lines: Option<LineStyle>,
-    staged: &[Staged],
+    beside: &Beside,
     records: &[Record<'_, T, U>],
     unconverted: Option<Vec<BString>>,
     answer: Result<Outcome, Error>,
     output: &mut O,
 ) -> Result<Report, Failure>
-    ensures { IsCommandEnd lines (map staged_view staged.now) (map visit_of records.now) answer (O.contents output.old) result (O.contents output.new) }
+    ensures { IsCommandEnd lines (beside_view beside.now) (map visit_of records.now) answer (O.contents output.old) result (O.contents output.new) }
 {
-    print_lines(alloc, lines, staged, records, output)?;
-    report_of(staged, records, unconverted, answer)
+    print_lines(alloc, lines, beside, records, output)?;
+    report_of(beside, records, unconverted, answer)
 }
 
-/// Prints the lines of what is staged and of records, or nothing if the command is quiet.
+/// Prints these lines, or nothing if the command is quiet.
 ///
 /// # Errors
 /// The output can't be written, and a beginning of the lines is; or memory ran out, and nothing is printed.
 fn print_lines<T: Drop, U: Drop, O: io::Write>(
     alloc: Global,
     lines: Option<LineStyle>,
-    staged: &[Staged],
+    beside: &Beside,
     records: &[Record<'_, T, U>],
     output: &mut O,
 ) -> Result<(), Failure>
-    ensures ok { OnOk result (Appends (O.contents output.old) (O.contents output.new) (printed_text lines (map staged_view staged.now) (map visit_of records.now))) }
-    ensures err { IfErr result (IsPrintFailure lines (map staged_view staged.now) (map visit_of records.now) (O.contents output.old) (O.contents output.new)) }
+    ensures ok { OnOk result (Appends (O.contents output.old) (O.contents output.new) (printed_text lines (beside_view beside.now) (map visit_of records.now))) }
+    ensures err { IfErr result (IsPrintFailure lines (beside_view beside.now) (map visit_of records.now) (O.contents output.old) (O.contents output.new)) }
 {
     let Some(style) = lines else {
         return Ok(());
     };
-    let text = lines_of(alloc, style, staged, records)?;
+    let text = lines_of(alloc, style, beside, records)?;
     print_all(&text, output).map_err(Failure::Output)
 }
 
@@ -74,12 +74,12 @@ fn print_lines<T: Drop, U: Drop, O: io::Write>(
 /// # Errors
 /// The status's error, or it ended early without a difference.
 fn report_of<T: Drop, U: Drop>(
-    staged: &[Staged],
+    beside: &Beside,
     records: &[Record<'_, T, U>],
     unconverted: Option<Vec<BString>>,
     answer: Result<Outcome, Error>,
 ) -> Result<Report, Failure>
-    ensures { IsFound (map staged_view staged.now) (map visit_of records.now) answer result }
+    ensures { IsFound (beside_view beside.now) (map visit_of records.now) answer result }
 {
     let outcome = match answer {
         Ok(outcome) => outcome,
@@ -90,23 +90,23 @@ fn report_of<T: Drop, U: Drop>(
         return Err(Failure::Interrupted);
     }
     Ok(Report {
-        dirty: differs || !staged.is_empty(),
+        dirty: differs || beside.is_anything(),
         outcome,
         unconverted,
     })
 }
 
-/// Returns the lines of what is staged and of records, in the order of paths.
+/// Returns the lines of what is staged and of records, in the order of paths, and then those of what else was found.
 fn lines_of<T: Drop, U: Drop>(
     alloc: Global,
     style: LineStyle,
-    staged: &[Staged],
+    beside: &Beside,
     records: &[Record<'_, T, U>],
 ) -> Result<Vec<u8>, AllocError>
-    ensures { IfOk result (λ lines. lines.items ≡ row_lines style (with_staged (visit_rows (map visit_of records.now)) (map staged_view staged.now))) }
+    ensures { IfOk result (λ lines. lines.items ≡ beside_text style (beside_view beside.now) (visit_rows (map visit_of records.now))) }
 {
     let mut lines = Vec::new(alloc);
-    let mut rest = staged;
+    let mut rest = beside.staged.as_slice();
     for record in records {
         let Some(two) = letters(&record.status) else {
             continue;
@@ -114,6 +114,7 @@ fn lines_of<T: Drop, U: Drop>(
         rest = push_beside(&mut lines, style, rest, record.relative_path, two)?;
     }
     push_each(&mut lines, style, rest)?;
+    push_others(&mut lines, style, &beside.others)?;
     Ok(lines)
 }
 

@@ -6,10 +6,10 @@ ghost use Rattle.git_attributes.specs.WorktreeFiles.{AreFilesSeen, AreFilesWith,
 ghost use Rattle.git_status.specs.Inputs.{asked_inputs};
 ghost use Rattle.git_status.specs.Runs.{Asking};
 
+use crate::beside::FindBeside;
 use crate::lines::LineStyle;
 use crate::status::Compared;
 use git_attributes::AttributeFiles;
-use git_staged::FindStaged;
 use status_base::worktree::{
     Find, Lister, MemoryObjects, NoLister, Pathspec, SubmoduleStatus, Worktree,
 };
@@ -38,7 +38,7 @@ pub struct Settings {
 
 /// The request of a command: a worktree and a commit, which parts of it are compared with an index, and the settings.
 #[derive(Drop)]
-pub struct Asked<'a, W, S, P, A, H> {
+pub struct Asked<'a, W, S, P, A, B> {
     /// The settings.
     pub settings: Settings,
     /// The worktree.
@@ -49,8 +49,8 @@ pub struct Asked<'a, W, S, P, A, H> {
     pub paths: P,
     /// The attribute files that aren't in the worktree, which say how git converts files too.
     pub attributes: A,
-    /// The commit that the index is compared with.
-    pub head: &'a H,
+    /// Finds what is beside the status: staged changes and untracked nodes.
+    pub beside: &'a B,
 }
 
 /// The question of a status, of any types.
@@ -58,18 +58,18 @@ pub trait Question {
     /// A submodule's report of a change.
     type Submodule;
 
-    /// How the worktree is compared after line ends are converted, which attribute files and staged changes may be found, and the
-    /// settings.
+    /// How the worktree is compared after line ends are converted, which attribute files may be found, what may be found beside
+    /// the status, and the settings.
     ghost asking: { Self → Asking (Unit {0}) Self.Submodule };
 }
 
-impl<'a, W: Worktree, S: SubmoduleStatus, P: Pathspec, A: AttributeFiles, H: FindStaged> Question
-    for Asked<'a, W, S, P, A, H> {
+impl<'a, W: Worktree, S: SubmoduleStatus, P: Pathspec, A: AttributeFiles, B: FindBeside> Question
+    for Asked<'a, W, S, P, A, B> {
     type Submodule = S::Output;
 
     ghost asking = { λ asked. record {
       query = λ filter. ⟦<Compared<'a, 'a, 'a, 'a, W, S, P> as Ask>⟧.query (asked_inputs asked filter);
-      may_stage = H.may_stage asked.head.now;
+      may_find = B.may_find asked.beside.now;
       are_files = λ index. AreFilesWith (AreFilesSeen (W.may_stat asked.worktree.now) (W.may_open asked.worktree.now) (folders_of (index_of index))) (A.are_files asked.attributes (index_of index));
       may_return = record {
         stat = W.may_stat asked.worktree.now;

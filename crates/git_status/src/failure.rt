@@ -1,7 +1,7 @@
 //! Why the command fails.
 
 ghost use Rattle.std.specs.Prelude.{◌≡◌};
-ghost use Rattle.git_status.specs.Failures.{failure_of_attributes, failure_of_head, failure_of_index, failure_of_status};
+ghost use Rattle.git_status.specs.Failures.{failure_of_attributes, failure_of_folders, failure_of_head, failure_of_index, failure_of_status};
 ghost use Rattle.git_status.specs.declared.failure.Failure.TheVariants.{Memory};
 
 use crate::lines::Quoted;
@@ -10,6 +10,7 @@ use git_attributes::AttributeFault;
 use git_index::IndexFileError;
 use git_objects::ObjectFault;
 use git_staged::TreeFault;
+use git_untracked::FolderFault;
 use status_call::index_as_worktree::Error;
 use std::alloc::AllocError;
 use std::fmt;
@@ -33,6 +34,8 @@ pub enum Failure {
         /// Why it isn't read.
         fault: ObjectFault,
     },
+    /// A folder in which untracked files are searched for can't be read.
+    Untracked(FolderFault),
     /// The output takes no more.
     Output(OutputError),
     /// Memory ran out.
@@ -57,6 +60,16 @@ impl Failure {
         match fault {
             TreeFault::Memory => Failure::Memory,
             fault => Failure::Head(fault),
+        }
+    }
+
+    /// Returns the failure for the search for untracked files.
+    pub fn of_folders(fault: FolderFault) -> Failure
+        ensures { result ≡ failure_of_folders fault }
+    {
+        match fault {
+            FolderFault::Memory => Failure::Memory,
+            fault => Failure::Untracked(fault),
         }
     }
 
@@ -98,6 +111,11 @@ impl fmt::Display for Failure {
                 let path = Quoted { path };
                 write!(f, "can't read {path} of the index: {fault}")
             }
+            Failure::Untracked(FolderFault::At { path, fault }) => {
+                let path = Quoted { path };
+                write!(f, "can't list {path}: {fault}")
+            }
+            Failure::Untracked(fault) => write!(f, "can't list the worktree: {fault}"),
             Failure::Output(error) => write!(f, "{error}"),
             Failure::Memory => f.write_str("out of memory"),
         }

@@ -53,7 +53,7 @@ where
     ///
     /// # Errors
     /// Out of memory.
-    pub fn of<S, A, H>(asked: &Asked<'a, W, S, P, A, H>) -> Result<Search<'a, W, P>, AllocError> {
+    pub fn of<S, A, B>(asked: &Asked<'a, W, S, P, A, B>) -> Result<Search<'a, W, P>, AllocError> {
         let settings = &asked.settings;
         Ok(Search {
             fs: settings.options.fs,

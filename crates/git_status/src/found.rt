@@ -8,6 +8,7 @@ ghost use Rattle.git_status.specs.Refreshes.{IsRefresh};
 
 use crate::answer::{Report, print_answer};
 use crate::asked::{Asked, Question, Settings};
+use crate::beside::FindBeside;
 use crate::failure::Failure;
 use crate::kept::{Kept, changed_bytes, has_all, kept_changes};
 use crate::notes::noted_paths;
@@ -19,7 +20,6 @@ use git_attributes::{
     find_attribute_files,
 };
 use git_index::IndexFileError;
-use git_staged::FindStaged;
 use status_base::worktree::{Pathspec, SubmoduleStatus, Worktree};
 use status_call::index_as_worktree::ApplyChange;
 use status_index::State;
@@ -43,8 +43,8 @@ impl<
     S: SubmoduleStatus + Send,
     P: Pathspec + Send,
     A: AttributeFiles + Send,
-    H: FindStaged + Sync,
-> Asked<'a, W, S, P, A, H>
+    B: FindBeside + Sync,
+> Asked<'a, W, S, P, A, B>
 where
     W::File: Send,
     S::Output: Send,
@@ -58,7 +58,7 @@ where
         rt: &R,
         index: &State,
     ) -> Result<Vec<AttributeFile>, AttributeFault>
-        ensures { IfOk result (λ files. (⟦<Asked<'a, W, S, P, A, H> as Question>⟧.asking self.now).are_files index.now (map file_view files.items)) }
+        ensures { IfOk result (λ files. (⟦<Asked<'a, W, S, P, A, B> as Question>⟧.asking self.now).are_files index.now (map file_view files.items)) }
     {
         let search = FolderSearch::new(rt.alloc(), self.worktree, index);
         let shares = allows_four(self.settings.options.thread_limit);
@@ -70,8 +70,8 @@ where
     /// found, with the changes that a refresh makes if they are wanted.
     ///
     /// # Errors
-    /// Memory runs out before the status, the file's checksum is wrong, or HEAD's files or an attribute file can't be read; or the status's error, after the lines before it
-    /// were printed; or the output can't be written. If changes are wanted, memory may also run out after all lines were
+    /// Memory runs out before the status, the file's checksum is wrong, or HEAD's files, an attribute file or a folder can't be
+    /// read; or the status's error, after the lines before it were printed; or the output can't be written. If changes are wanted, memory may also run out after all lines were
     /// printed.
     pub(crate) fn print_index<R: AllocGlobal + Sync + Threads + Wait, O: io::Write>(
         self,
@@ -81,7 +81,7 @@ where
         output: &mut O,
     ) -> Result<Found, Failure>
         requires { IsRead self.settings read.now }
-        ensures { IsIndexFound wanted (⟦<Asked<'a, W, S, P, A, H> as Question>⟧.asking self.entry) read.now.bytes.now read.now.file.state (O.contents output.old) result (O.contents output.new) }
+        ensures { IsIndexFound wanted (⟦<Asked<'a, W, S, P, A, B> as Question>⟧.asking self.entry) read.now.bytes.now read.now.file.state (O.contents output.old) result (O.contents output.new) }
     {
         let alloc = rt.alloc();
         let index = &read.file.state;
@@ -90,18 +90,15 @@ where
         let attributes = attributes_of(alloc, &files)?;
         let filter = filter_of(&attributes, index, &self.settings);
         let attributes = filter.attributes;
-        let (staged, computed) = compute_both(rt, read, filter, self);
+        let (beside, computed) = compute_both(rt, read, filter, self);
         let Some(computed) = computed else {
             return Err(Failure::Index(IndexFileError::Checksum));
         };
-        let staged = match staged {
-            Ok(staged) => staged,
-            Err(fault) => return Err(Failure::of_head(fault)),
-        };
+        let beside = beside?;
         let Computed { recorder, answer } = computed;
         let records = recorder.records.as_slice();
         let unconverted = noted_paths(alloc, notes, attributes, records);
-        let report = print_answer(alloc, lines, &staged, records, unconverted, answer, output)?;
+        let report = print_answer(alloc, lines, &beside, records, unconverted, answer, output)?;
         if !wanted {
             return Ok(Found {
                 report,
@@ -130,7 +127,7 @@ where
         output: &mut O,
     ) -> Result<(Report, Refreshed<'b>), Failure>
         requires { IsRead self.settings read.now }
-        ensures { IsRefresh (⟦<Asked<'a, W, S, P, A, H> as Question>⟧.asking self.entry) read.old.bytes.now (O.contents output.old) result (O.contents output.new) }
+        ensures { IsRefresh (⟦<Asked<'a, W, S, P, A, B> as Question>⟧.asking self.entry) read.old.bytes.now (O.contents output.old) result (O.contents output.new) }
     {
         let alloc = rt.alloc();
         let Found {

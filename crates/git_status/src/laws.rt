@@ -18,14 +18,14 @@ use crate::asked::Question;
 /// differs from the worktree, of those that are compared.
 pub fn clean_means_no_difference<T: Drop, Q: Question>(asked: &Q)
     ensures { (query : LineEnds → StatusSettings → Query T Q.Submodule) (settings : AskedSettings) (bytes : List ℕ)
-        → CleanLaw (record { query = query; are_files = (Q.asking asked.now).are_files; may_stage = (Q.asking asked.now).may_stage; may_return = (Q.asking asked.now).may_return; settings = settings }) bytes }
+        → CleanLaw (record { query = query; are_files = (Q.asking asked.now).are_files; may_find = (Q.asking asked.now).may_find; may_return = (Q.asking asked.now).may_return; settings = settings }) bytes }
 {}
 
 /// Over a modelled worktree and with exit status 0 or 1, the output grew by the lines of exactly what was found to be staged
 /// and the entries that differ from the worktree, of those that are compared, unless the command is quiet.
 pub fn lines_are_of_all_differences<T: Drop, Q: Question>(asked: &Q)
     ensures { (query : LineEnds → StatusSettings → Query T Q.Submodule) (settings : AskedSettings) (bytes : List ℕ)
-        → LinesLaw (record { query = query; are_files = (Q.asking asked.now).are_files; may_stage = (Q.asking asked.now).may_stage; may_return = (Q.asking asked.now).may_return; settings = settings }) bytes }
+        → LinesLaw (record { query = query; are_files = (Q.asking asked.now).are_files; may_find = (Q.asking asked.now).may_find; may_return = (Q.asking asked.now).may_return; settings = settings }) bytes }
 {}
 
 /// A refresh changes each entry that has a record by that record alone, and no other entry.
@@ -45,5 +45,5 @@ pub fn refresh_hides_nothing<U: Drop>()
 /// and over any, by what was seen of each entry.
 pub fn refreshes_hide_nothing<Q: Question>(asked: &Q)
     ensures { (query : LineEnds → StatusSettings → Query (Unit {0}) Q.Submodule) (settings : AskedSettings) (bytes : List ℕ)
-        → RefreshesLaw (record { query = query; are_files = (Q.asking asked.now).are_files; may_stage = (Q.asking asked.now).may_stage; may_return = (Q.asking asked.now).may_return; settings = settings }) bytes }
+        → RefreshesLaw (record { query = query; are_files = (Q.asking asked.now).are_files; may_find = (Q.asking asked.now).may_find; may_return = (Q.asking asked.now).may_return; settings = settings }) bytes }
 {}

@@ -1,8 +1,8 @@
 //! The command `git dirty`, over the bytes of an index file, any commit, any worktree and any writers.
 //!
 //! Read `dirty` first, which has the command, `read`, the index file that it is passed, and `asked`, what it is asked.
-//! `status` computes the status of an index, `found` prints it and returns what was found, and `answer` has its lines
-//! and its report. `refresh` has the command with the new bytes of the index file, and `kept` the changes in them.
+//! `status` computes the status of an index, `beside` has what is found beside it, `found` prints both and returns what was
+//! found, and `answer` has its lines and its report. `refresh` has the command with the new bytes of the index file, and `kept` the changes in them.
 //! `staged` is the first column alone. `lines` has git's lines and quoted paths, and `columns` both columns of them;
 //! `output` writes them. `paths` is a pathspec of files and folders. `watcher` stops at the first difference. `remarks`
 //! are written besides the lines, with `notes` on files that the status doesn't convert. `failure` says why the command
@@ -11,6 +11,7 @@
 
 mod answer;
 mod asked;
+mod beside;
 mod columns;
 mod dirty;
 mod failure;
@@ -31,6 +32,7 @@ mod watcher;
 
 pub use answer::{Report, has_difference};
 pub use asked::{Asked, Question, Settings};
+pub use beside::{Beside, FindBeside, Searches};
 pub use dirty::{print_file, run_dirty};
 pub use failure::Failure;
 pub use laws::{
@@ -38,7 +40,7 @@ pub use laws::{
     refresh_hides_nothing, refreshes_hide_nothing,
 };
 pub use output::print_failure;
-pub use paths::{Paths, Top};
+pub use paths::{Paths, Top, Tops};
 pub use read::ReadIndex;
 pub use refresh::{Refreshed, run_refresh};
 pub use staged::print_staged;

@@ -4,9 +4,10 @@ ghost use Rattle.std.specs.Prelude.{◌≡◌};
 ghost use Rattle.std.specs.List.{list_any};
 ghost use Rattle.bstr.specs.BStr.{bstr_bytes};
 ghost use Rattle.status_index.specs.States.{index_of};
-ghost use Rattle.git_status.specs.Paths.{is_component_end, is_left_out, is_within};
+ghost use Rattle.git_status.specs.Paths.{is_above, is_component_end, is_left_out, is_within};
 
 use bstr::BStr;
+use git_untracked::Selection;
 use status_base::worktree::Pathspec;
 use status_index::State;
 
@@ -52,6 +53,39 @@ impl Pathspec for Paths<'_> {
         let is_selected = self.tops.is_empty() || is_within_any(path.as_bytes(), is_dir, self.tops);
         is_selected && !is_left_out(self.left_out, path)
     }
+}
+
+/// A selection of the nodes that an index doesn't have: files, and folders with all that is below them. An empty list selects
+/// every path.
+#[derive(Clone, Copy)]
+pub struct Tops<'a> {
+    /// The paths that are selected.
+    pub tops: &'a [Top<'a>],
+}
+
+impl Selection for Tops<'_> {
+    ghost use Rattle.git_status.specs.Paths.{is_selected, leads};
+
+    ghost selects = { λ p path is_folder. is_selected p.tops.now path is_folder };
+
+    ghost leads = { λ p path. leads p.tops.now path };
+
+    fn selects(&self, path: BStr<'_>, is_folder: bool) -> bool {
+        self.tops.is_empty() || is_within_any(path.as_bytes(), is_folder, self.tops)
+    }
+
+    fn leads(&self, folder: BStr<'_>) -> bool {
+        let folder = folder.as_bytes();
+        self.tops.iter().any(|top| is_above(folder, top))
+    }
+}
+
+/// Whether a path is that of a folder on the way to a selected path.
+fn is_above(folder: &[u8], top: &Top<'_>) -> bool
+    ensures { result ≡ is_above folder.now top.now }
+{
+    let path = top.path;
+    path.starts_with(folder) && path.len() > folder.len() && path[folder.len()] == b'/'
 }
 
 /// Whether an entry that is left out has a path.

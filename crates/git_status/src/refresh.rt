@@ -9,12 +9,12 @@ ghost use Rattle.git_status.specs.Runs.{IsSeenClean};
 ghost use Rattle.git_status.specs.declared.lines.LineStyle.{LineStyle};
 
 use crate::asked::{Asked, Question};
+use crate::beside::FindBeside;
 use crate::dirty::report_failure;
 use crate::fault_place::Search;
 use crate::read::ReadIndex;
 use crate::remarks::{Remarks, print_remarks};
 use git_attributes::AttributeFiles;
-use git_staged::FindStaged;
 use status_base::worktree::{Pathspec, SubmoduleStatus, Worktree};
 use std::io;
 use std::sync::Wait;
@@ -23,7 +23,7 @@ use std::thread::Threads;
 /// A refresh: the exit status, and the new bytes of the index file.
 #[derive(Debug, Drop)]
 pub struct Refreshed<'b> {
-    /// The exit status: 0 if nothing is staged and no entry differs, 1 if something is or does, and 2 after a failure.
+    /// The exit status: 0 if nothing is staged, no entry differs and no node is untracked, 1 otherwise, and 2 after a failure.
     pub status: u8,
     /// The new bytes. None after a failure, and if the file needn't change.
     pub bytes: Option<Vec<u8>>,
@@ -47,13 +47,13 @@ pub fn run_refresh<
     S: SubmoduleStatus + Send,
     P: Pathspec + Send,
     A: AttributeFiles + Send,
-    H: FindStaged + Sync,
+    B: FindBeside + Sync,
     O: io::Write,
     E: io::Write,
 >(
     rt: &R,
     mut read: ReadIndex<'b>,
-    asked: Asked<'a, W, S, P, A, H>,
+    asked: Asked<'a, W, S, P, A, B>,
     output: &mut O,
     faults: &mut E,
 ) -> Refreshed<'b>
@@ -62,12 +62,12 @@ where
     S::Output: Send,
     requires { IsRead asked.settings read }
     ensures status { (result.status ≡ 0) ⊎ ((result.status ≡ 1) ⊎ (result.status ≡ 2)) }
-    ensures clean { result.status ≡ 0 → IsRefreshExit (⟦<Asked<'a, W, S, P, A, H> as Question>⟧.asking asked.entry) read.entry.bytes.now false result (O.contents output.old) (O.contents output.new) }
-    ensures clean_seen { result.status ≡ 0 → IsSeenClean (⟦<Asked<'a, W, S, P, A, H> as Question>⟧.asking asked.entry) read.entry.bytes.now }
+    ensures clean { result.status ≡ 0 → IsRefreshExit (⟦<Asked<'a, W, S, P, A, B> as Question>⟧.asking asked.entry) read.entry.bytes.now false result (O.contents output.old) (O.contents output.new) }
+    ensures clean_seen { result.status ≡ 0 → IsSeenClean (⟦<Asked<'a, W, S, P, A, B> as Question>⟧.asking asked.entry) read.entry.bytes.now }
     ensures lines_seen { result.status ≢ 2 → (style : LineStyle) → asked.entry.settings.lines ≡ Some style
-        → PrintsSeen (⟦<Asked<'a, W, S, P, A, H> as Question>⟧.asking asked.entry) style read.entry.bytes.now (O.contents output.old) (O.contents output.new) }
-    ensures dirty { result.status ≡ 1 → IsRefreshExit (⟦<Asked<'a, W, S, P, A, H> as Question>⟧.asking asked.entry) read.entry.bytes.now true result (O.contents output.old) (O.contents output.new) }
-    ensures failed { result.status ≡ 2 → IsRefreshFailedExit (⟦<Asked<'a, W, S, P, A, H> as Question>⟧.asking asked.entry) read.entry.bytes.now (O.contents output.old) (O.contents output.new) }
+        → PrintsSeen (⟦<Asked<'a, W, S, P, A, B> as Question>⟧.asking asked.entry) style read.entry.bytes.now (O.contents output.old) (O.contents output.new) }
+    ensures dirty { result.status ≡ 1 → IsRefreshExit (⟦<Asked<'a, W, S, P, A, B> as Question>⟧.asking asked.entry) read.entry.bytes.now true result (O.contents output.old) (O.contents output.new) }
+    ensures failed { result.status ≡ 2 → IsRefreshFailedExit (⟦<Asked<'a, W, S, P, A, B> as Question>⟧.asking asked.entry) read.entry.bytes.now (O.contents output.old) (O.contents output.new) }
     ensures unwritten { result.status ≡ 2 → result.bytes ≡ None }
     ensures line { result.status ≡ 2 → IsFaultLine (E.contents faults.old) (E.contents faults.new) }
     ensures quiet { result.status ≢ 2 → asked.entry.settings.stats ≡ false → asked.entry.settings.notes ≡ false → E.contents faults.new ≡ E.contents faults.old }

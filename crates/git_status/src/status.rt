@@ -1,20 +1,21 @@
 //! The status of an index, as the command asks for it.
 
-ghost use Rattle.std.specs.Prelude.{◌≡◌, ◌↔◌, IfOk, IfSome, IsTrue, None, is_some, map, true, ⊤};
+ghost use Rattle.std.specs.Prelude.{◌≡◌, ◌↔◌, IfErr, IfOk, IfSome, IsTrue, None, is_some, true, ⊤};
 ghost use Rattle.status_index.specs.States.{index_of};
-ghost use Rattle.git_staged.specs.Staged.{staged_view};
+ghost use Rattle.git_status.specs.Besides.{beside_view};
 ghost use Rattle.status_call.specs.RecorderVisits.{visits_of};
 ghost use Rattle.git_index.specs.Refusals.{EndsWithChecksum};
 ghost use Rattle.git_status.specs.Reads.{IsRead};
-ghost use Rattle.git_status.specs.Runs.{IsComputed, IsComputedBy};
+ghost use Rattle.git_status.specs.Runs.{IsComputed, IsComputedBy, IsUnfound};
 ghost use Rattle.status_call.specs.Inputs.{settings};
 
 use crate::asked::{Asked, Question, Settings};
+use crate::beside::{Beside, FindBeside};
+use crate::failure::Failure;
 use crate::read::ReadIndex;
 use crate::watcher::Watcher;
 use git_attributes::{AttributeFiles, Attributes, LineEnds};
 use git_index::ends_with_checksum;
-use git_staged::{FindStaged, Staged, TreeFault};
 use status_base::worktree::{
     GuardedWorktree, MemoryObjects, NoLister, Pathspec, SubmoduleStatus, Worktree,
 };
@@ -135,19 +136,19 @@ pub(crate) fn compute<
     S: SubmoduleStatus + Send,
     P: Pathspec + Send,
     A: AttributeFiles + Send,
-    H: FindStaged + Sync,
+    B: FindBeside + Sync,
 >(
     rt: &R,
     read: &'index ReadIndex<'_>,
     filter: LineEnds<'b, 'files, 'index>,
-    asked: Asked<'a, W, S, P, A, H>,
+    asked: Asked<'a, W, S, P, A, B>,
 ) -> Option<Computed<'index, (), S::Output>>
 where
     W::File: Send,
     S::Output: Send + 'index,
     requires { IsRead asked.settings read.now }
     ensures checked { IfSome result (λ _. EndsWithChecksum asked.entry.settings.kind read.now.bytes.now) }
-    ensures computed { IfSome result (λ c. IsComputed ((⟦<Asked<'a, W, S, P, A, H> as Question>⟧.asking asked.entry).query filter.entry (settings asked.entry.settings.options read.now.file.state)) ((⟦<Asked<'a, W, S, P, A, H> as Question>⟧.asking asked.entry).may_return) read.now.file.state asked.entry.settings c.answer (visits_of c.recorder)) }
+    ensures computed { IfSome result (λ c. IsComputed ((⟦<Asked<'a, W, S, P, A, B> as Question>⟧.asking asked.entry).query filter.entry (settings asked.entry.settings.options read.now.file.state)) ((⟦<Asked<'a, W, S, P, A, B> as Question>⟧.asking asked.entry).may_return) read.now.file.state asked.entry.settings c.answer (visits_of c.recorder)) }
     ensures wrong { result ≡ None → EndsWithChecksum asked.entry.settings.kind read.now.bytes.now → ⊥ }
 {
     let alloc = rt.alloc();
@@ -175,8 +176,8 @@ where
     compute_checked(rt, asked.settings.kind, read, decider, &execution)
 }
 
-/// Finds what is staged, next to the status of an index file that was read. With a thread limit of 1 it is found first. There is
-/// no status if the file's checksum is wrong.
+/// Finds what is beside the status of an index file that was read, next to computing it. With a thread limit of 1 it is found first.
+/// There is no status if the file's checksum is wrong.
 pub(crate) fn compute_both<
     'index,
     'a,
@@ -187,35 +188,37 @@ pub(crate) fn compute_both<
     S: SubmoduleStatus + Send,
     P: Pathspec + Send,
     A: AttributeFiles + Send,
-    H: FindStaged + Sync,
+    B: FindBeside + Sync,
 >(
     rt: &R,
     read: &'index ReadIndex<'_>,
     filter: LineEnds<'b, 'files, 'index>,
-    asked: Asked<'a, W, S, P, A, H>,
+    asked: Asked<'a, W, S, P, A, B>,
 ) -> (
-    Result<Vec<Staged>, TreeFault>,
+    Result<Beside, Failure>,
     Option<Computed<'index, (), S::Output>>,
 )
 where
     W::File: Send,
     S::Output: Send + 'index,
     requires { IsRead asked.settings read.now }
-    ensures staged { IfOk result.0 (λ found. (⟦<Asked<'a, W, S, P, A, H> as Question>⟧.asking asked.entry).may_stage (index_of read.now.file.state) (map staged_view found.items)) }
+    ensures found { IfOk result.0 (λ found. (⟦<Asked<'a, W, S, P, A, B> as Question>⟧.asking asked.entry).may_find (index_of read.now.file.state) (beside_view found)) }
+    ensures unfound { IfErr result.0 IsUnfound }
     ensures checked { IfSome result.1 (λ _. EndsWithChecksum asked.entry.settings.kind read.now.bytes.now) }
-    ensures computed { IfSome result.1 (λ c. IsComputed ((⟦<Asked<'a, W, S, P, A, H> as Question>⟧.asking asked.entry).query filter.entry (settings asked.entry.settings.options read.now.file.state)) ((⟦<Asked<'a, W, S, P, A, H> as Question>⟧.asking asked.entry).may_return) read.now.file.state asked.entry.settings c.answer (visits_of c.recorder)) }
+    ensures computed { IfSome result.1 (λ c. IsComputed ((⟦<Asked<'a, W, S, P, A, B> as Question>⟧.asking asked.entry).query filter.entry (settings asked.entry.settings.options read.now.file.state)) ((⟦<Asked<'a, W, S, P, A, B> as Question>⟧.asking asked.entry).may_return) read.now.file.state asked.entry.settings c.answer (visits_of c.recorder)) }
     ensures wrong { result.1 ≡ None → EndsWithChecksum asked.entry.settings.kind read.now.bytes.now → ⊥ }
 {
-    let (alloc, index, head) = (rt.alloc(), &read.file.state, asked.head);
+    let (index, beside) = (&read.file.state, asked.beside);
     if let Some(1) = asked.settings.options.thread_limit {
-        let staged = head.find_staged(alloc, index);
-        return (staged, compute(rt, read, filter, asked));
+        let found = beside.find_beside(rt, index, true);
+        return (found, compute(rt, read, filter, asked));
     }
     join(
         rt,
-        move || -> Result<Vec<Staged>, TreeFault>
-            ensures { IfOk result (λ found. H.may_stage head.entry.now (index_of index.entry.now) (map staged_view found.items)) }
-        { head.find_staged(alloc, index) },
+        move || -> Result<Beside, Failure>
+            ensures found { IfOk result (λ found. B.may_find beside.entry.now (index_of index.entry.now) (beside_view found)) }
+            ensures unfound { IfErr result IsUnfound }
+        { beside.find_beside(rt, index, false) },
         // A clause of its own brings the bounds of this function into the closure.
         move ||
             requires { IsRead asked.settings read.now }

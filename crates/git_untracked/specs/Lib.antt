@@ -1,0 +1,5 @@
+pub mod Lines
+pub mod Questions
+pub mod Walks
+pub mod Requests
+pub mod Untracked

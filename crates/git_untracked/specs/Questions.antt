@@ -1,0 +1,69 @@
+-- What a walk for untracked files is asked, and what it may be told about a worktree.
+use Rattle.std.specs.Prelude.{◌≡◌, ◌⊎◌, ◌==◌, ◌&&◌, ◌||◌, not, ℕ, Bool, true, false, List, [], ◌∷◌, ◌++◌, filter, codes, Option, Some, None}
+use Rattle.std.specs.List.{list_any}
+use Rattle.std.specs.Str.{bytes_eq}
+use Rattle.status_index.specs.Entries.{IndexEntry, stage_of}
+use Rattle.status_index.specs.Mode.{is_submodule}
+use Rattle.status_index.specs.Stretch.{is_at, is_under}
+use Rattle.status_index.specs.declared.stat.NodeKind.{NodeKind}
+use Rattle.git_ignore.specs.Rules.{Rule, rules_of}
+
+-- The entries of an index, which lines are wanted, and which answers a worktree may give. A folder's path ends in a slash, but for that
+-- of the worktree's top, which is empty.
+pub record Question : Type 1 where
+  pub index : List IndexEntry
+  -- Whether each file of an untracked folder has a line, and not the folder.
+  pub all : Bool
+  -- Whether ignored nodes have lines too.
+  pub ignored : Bool
+  -- Whether a path is selected. The last argument is whether it is a folder's.
+  pub selects : List ℕ → Bool → Bool
+  -- Whether a path below this one is selected by itself.
+  pub leads : List ℕ → Bool
+  -- The names in a folder, or None if there is no folder.
+  pub may_list : List ℕ → Option (List (List ℕ)) → Type 0
+  -- The type of the node at a path, or None if nothing is there.
+  pub may_be : List ℕ → Option NodeKind → Type 0
+  -- The bytes of a folder's ignore file, or None if it has none.
+  pub may_ignore : List ℕ → Option (List ℕ) → Type 0
+  -- Whether a folder is the top of another repository.
+  pub may_nest : List ℕ → Bool → Type 0
+
+-- The rules that count in a folder, whether the folder or one above it is ignored, and whether its first line is enough.
+pub record Within : Type 0 where
+  pub rules : List Rule
+  pub excluded : Bool
+  pub one : Bool
+
+-- An entry is below a folder.
+abbrev pub has_below : List IndexEntry → List ℕ → Bool
+has_below es folder = list_any (is_under folder) es
+
+-- Git keeps its own files under the name `.git`. The other two names are those of the folder itself and of the one above.
+abbrev pub is_special : List ℕ → Bool
+is_special name = bytes_eq name (codes ".git") || (bytes_eq name (codes ".") || bytes_eq name (codes ".."))
+
+-- Whether an entry is a side of a conflict.
+abbrev pub is_side : IndexEntry → Bool
+is_side e = not (stage_of e == 0)
+
+-- By the entries of a path no line is at it or below it: a submodule is there, or a tracked file. If a folder is in place of the file, its
+-- nodes count if all untracked files or ignored nodes are wanted, or if the path is in conflict, so that a side may have a folder.
+abbrev pub is_settled : Bool → List IndexEntry → Bool
+is_settled wanted [] = false
+is_settled wanted (e ∷ es) = list_any (λ x. is_submodule x.mode) (e ∷ es) || not (wanted || list_any is_side (e ∷ es))
+
+-- No line is at a path or below it: it is settled by its entries, or nothing there is selected.
+abbrev pub is_passed_over : Question → List ℕ → Bool
+is_passed_over q path =
+    is_settled (q.all || q.ignored) (filter (is_at path) q.index) || not (q.selects path true || q.leads path)
+
+abbrev pub file_rules : List ℕ → Option (List ℕ) → List Rule
+file_rules folder None = []
+file_rules folder (Some bytes) = rules_of folder bytes
+
+-- The rules of a folder's ignore file come after those of the folders above. In an ignored folder it needn't be read.
+abbrev pub HasRules : Question → List ℕ → Within → List Rule → Type 0
+HasRules q folder within rules =
+    ((within.excluded ≡ true) × (rules ≡ within.rules))
+    ⊎ ((file : Option (List ℕ)) × q.may_ignore folder file × (rules ≡ within.rules ++ file_rules folder file))

@@ -1,0 +1,22 @@
+-- What the parts of the code are in the words of a walk.
+use Rattle.std.specs.Prelude.{◌≡◌, ◌⊎◌, ◌||◌, Bool, true, false, List, ℕ}
+use Rattle.git_ignore.specs.Rules.{Rule}
+use Rattle.git_untracked.specs.Lines.{Lines, and_lines}
+use Rattle.git_untracked.specs.Questions.{Question, Within, has_below}
+use Rattle.git_untracked.specs.declared.ask.Way.{Way}
+use Rattle.git_untracked.specs.declared.ask.Way.TheVariants as ways
+use Rattle.git_untracked.specs.declared.walk.Within.{Within as WithinType}
+
+abbrev pub within_view : WithinType → List Rule → Within
+within_view w rules = record { rules = rules; excluded = w.is_excluded; one = w.is_one_enough }
+
+-- How a folder of this path is entered, below which a path is selected by itself or not.
+abbrev pub IsWay : Question → List ℕ → Bool → Way → Type 0
+IsWay q folder leads ways.Each = (has_below q.index folder ≡ true) ⊎ ((has_below q.index folder ≡ false) × q.may_nest folder false × ((q.all || leads) ≡ true))
+IsWay q folder leads ways.Whole = (has_below q.index folder ≡ false) × q.may_nest folder false × ((q.all || leads) ≡ false)
+IsWay q folder leads ways.Line = (has_below q.index folder ≡ false) × q.may_nest folder true × (leads ≡ false)
+IsWay q folder leads ways.Nothing = (has_below q.index folder ≡ false) × q.may_nest folder true × (leads ≡ true)
+
+-- These lines were added to others.
+abbrev pub IsAdded : (Lines → Type 0) → Lines → Lines → Type 0
+IsAdded are old new = (more : Lines) × (new ≡ and_lines old more) × are more

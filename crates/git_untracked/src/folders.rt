@@ -1,0 +1,90 @@
+//! The questions that a walk asks of a worktree.
+
+use bstr::BStr;
+use status_base::worktree::NodeKind;
+use status_index::Fault;
+use std::alloc::{AllocError, Global};
+use thiserror::Error;
+
+/// The folders of a worktree, and what git asks of them to find untracked files. Paths are from the worktree's top, with `/`
+/// between components. The path of the top is empty.
+pub trait Folders {
+    ghost use Rattle.std.specs.Prelude.{IfOk, List, Bool, Option, map, option_map, ℕ, ⊤};
+    ghost use Rattle.bstr.specs.BStr.{bstr_bytes};
+    ghost use Rattle.status_index.specs.declared.stat.NodeKind.{NodeKind as NodeType};
+
+    /// Which names a folder may be said to have. None if there is no folder.
+    ghost may_list: { Self → List ℕ → Option (List (List ℕ)) → Type 0 } = { λ _ _ _. ⊤ };
+
+    /// Which type the node at a path may be said to have. None if nothing is there.
+    ghost may_be: { Self → List ℕ → Option NodeType → Type 0 } = { λ _ _ _. ⊤ };
+
+    /// Which bytes the ignore file of a folder may be said to have. None if it has none.
+    ghost may_ignore: { Self → List ℕ → Option (List ℕ) → Type 0 } = { λ _ _ _. ⊤ };
+
+    /// Whether a folder may be said to be the top of another repository.
+    ghost may_nest: { Self → List ℕ → Bool → Type 0 } = { λ _ _ _. ⊤ };
+
+    /// Returns the names of the nodes in a folder, in any order. None if there is no folder.
+    ///
+    /// # Errors
+    /// It can't be listed, or out of memory.
+    fn list(&self, folder: BStr<'_>) -> Result<Option<Vec<Vec<u8>>>, Fault>
+        ensures { IfOk result (λ names. may_list self.now (bstr_bytes folder.entry) (option_map (λ v. map (λ name. name.items) v.items) names)) };
+
+    /// Returns the type of the node at a path. A link isn't followed. None if nothing is there.
+    ///
+    /// # Errors
+    /// The system refuses to say, or out of memory.
+    fn kind(&self, path: BStr<'_>) -> Result<Option<NodeKind>, Fault>
+        ensures { IfOk result (λ kind. may_be self.now (bstr_bytes path.entry) kind) };
+
+    /// Returns the bytes of a folder's ignore file. None if it has none. `is_there` is whether a node of that name is in the folder.
+    ///
+    /// # Errors
+    /// It can't be read, or out of memory.
+    fn ignore_file(&self, folder: BStr<'_>, is_there: bool) -> Result<Option<Vec<u8>>, Fault>
+        ensures { IfOk result (λ bytes. may_ignore self.now (bstr_bytes folder.entry) (option_map (λ v. v.items) bytes)) };
+
+    /// Returns whether a folder is the top of another repository.
+    ///
+    /// # Errors
+    /// The system refuses to say, or out of memory.
+    fn is_repository(&self, folder: BStr<'_>) -> Result<bool, Fault>
+        ensures { IfOk result (may_nest self.now (bstr_bytes folder.entry)) };
+}
+
+/// Why untracked files can't be found.
+#[derive(Debug, Drop, Error)]
+pub enum FolderFault {
+    /// The system doesn't answer a question about a path.
+    #[error("{fault}")]
+    At {
+        /// The path.
+        path: Vec<u8>,
+        /// The fault.
+        fault: Fault,
+    },
+    /// More than 2,048 folders are within each other.
+    #[error("more than 2,048 folders are within each other")]
+    TooDeep,
+    /// An allocation failed.
+    #[error("Out of memory")]
+    Memory,
+}
+
+impl From<AllocError> for FolderFault {
+    fn from(_error: AllocError) -> FolderFault {
+        FolderFault::Memory
+    }
+}
+
+impl FolderFault {
+    /// Returns the fault of a question about a path.
+    pub(crate) fn at(alloc: Global, path: &[u8], fault: Fault) -> FolderFault {
+        match (fault, Vec::from_slice(alloc, path)) {
+            (Fault::Memory, _) | (_, Err(_)) => FolderFault::Memory,
+            (fault, Ok(path)) => FolderFault::At { path, fault },
+        }
+    }
+}

@@ -1,0 +1,23 @@
+//! The selection of the paths that are walked.
+
+use bstr::BStr;
+
+/// Selects the nodes that may have lines, as git's pathspecs do.
+pub trait Selection {
+    ghost use Rattle.std.specs.Prelude.{◌≡◌, Bool, List, ℕ};
+    ghost use Rattle.bstr.specs.BStr.{bstr_bytes};
+
+    /// Whether a path is selected. The last argument is whether it is a folder's.
+    ghost selects: { Self → List ℕ → Bool → Bool };
+
+    /// Whether a path below a folder is selected by itself, and not since the folder is.
+    ghost leads: { Self → List ℕ → Bool };
+
+    /// Returns whether a path is selected.
+    fn selects(&self, path: BStr<'_>, is_folder: bool) -> bool
+        ensures { result ≡ selects self.now (bstr_bytes path.entry) is_folder };
+
+    /// Returns whether a path below a folder is selected by itself, and not since the folder is.
+    fn leads(&self, folder: BStr<'_>) -> bool
+        ensures { result ≡ leads self.now (bstr_bytes folder.entry) };
+}

@@ -1,0 +1,193 @@
+//! The walk through the folders of a worktree.
+
+ghost use Rattle.std.specs.Prelude.{◌≡◌, ◌++◌, IfOk, OnOk};
+ghost use Rattle.git_ignore.specs.Views.{rules_view};
+ghost use Rattle.git_untracked.specs.Lines.{lines_view, paths_of};
+ghost use Rattle.git_untracked.specs.Requests.{IsAdded, within_view};
+ghost use Rattle.git_untracked.specs.Questions.{is_special};
+ghost use Rattle.git_untracked.specs.Walks.{AreNodes, IsFolder, IsNode, IsSubfolder, is_ignored};
+
+use crate::ask::{Ask, Way};
+use crate::folders::FolderFault;
+use crate::lines::Lines;
+use git_ignore::IgnoreRules;
+use git_patterns::text::is_word;
+use status_base::worktree::NodeKind;
+use std::alloc::AllocError;
+
+/// The most folders within each other. Systems refuse the paths of more, which have 4,096 bytes.
+pub(crate) const MOST_FOLDERS: usize = 2048;
+
+/// How a folder is walked.
+#[derive(Clone, Copy)]
+pub(crate) struct Within {
+    /// Whether it, or a folder above it, is ignored.
+    pub(crate) is_excluded: bool,
+    /// Whether its first line is enough.
+    pub(crate) is_one_enough: bool,
+}
+
+/// Adds the lines of what is in a folder. `depth` is how many folders may be within each other, and `rules` are those of the
+/// ignore files above it.
+///
+/// # Errors
+/// The system doesn't answer a question, folders are too deep, or out of memory. Then any path, rules and lines may be left.
+#[cycle(walk)]
+pub(crate) fn walk_folder<Q: Ask>(
+    ask: &Q,
+    depth: usize,
+    within: Within,
+    path: &mut Vec<u8>,
+    rules: &mut IgnoreRules,
+    lines: &mut Lines,
+) -> Result<(), FolderFault>
+    ensures path { OnOk result (path.new.items ≡ path.old.items) }
+    ensures rules { OnOk result (rules_view rules.new ≡ rules_view rules.old) }
+    ensures lines { OnOk result (IsAdded (IsFolder (Q.question ask.now) path.old.items (within_view within (rules_view rules.old))) (lines_view lines.old) (lines_view lines.new)) }
+{
+    let Some(fewer) = depth.checked_sub(1) else {
+        return Err(FolderFault::TooDeep);
+    };
+    let Some(names) = ask.names_in(path)? else {
+        return Ok(());
+    };
+    let count = rules.count();
+    if !within.is_excluded {
+        ask.add_rules(path, &names, rules)?;
+    }
+    walk_names(ask, fewer, within, &names, path, rules, lines)?;
+    rules.truncate(count);
+    Ok(())
+}
+
+/// Adds the lines of the nodes of these names in a folder. The rules are those of the folder.
+///
+/// # Errors
+/// Those of `walk_folder`.
+#[cycle(walk)]
+fn walk_names<Q: Ask>(
+    ask: &Q,
+    depth: usize,
+    within: Within,
+    names: &[Vec<u8>],
+    path: &mut Vec<u8>,
+    rules: &mut IgnoreRules,
+    lines: &mut Lines,
+) -> Result<(), FolderFault>
+    ensures path { OnOk result (path.new.items ≡ path.old.items) }
+    ensures rules { OnOk result (rules_view rules.new ≡ rules_view rules.old) }
+    ensures lines { OnOk result (IsAdded (AreNodes (Q.question ask.now) path.old.items (within_view within (rules_view rules.old)) (paths_of names.now)) (lines_view lines.old) (lines_view lines.new)) }
+{
+    let mut rest = names;
+    'names: while let [name, after @ ..] = rest {
+        let before = lines.end();
+        walk_node(ask, depth, within, name, path, rules, lines)?;
+        if within.is_one_enough && lines.go_on(before) {
+            return Ok(());
+        }
+        rest = after;
+    }
+    Ok(())
+}
+
+/// Adds the lines of the node of a name in a folder, and of what is below it.
+///
+/// # Errors
+/// Those of `walk_folder`.
+#[cycle(walk)]
+fn walk_node<Q: Ask>(
+    ask: &Q,
+    depth: usize,
+    within: Within,
+    name: &[u8],
+    path: &mut Vec<u8>,
+    rules: &mut IgnoreRules,
+    lines: &mut Lines,
+) -> Result<(), FolderFault>
+    ensures path { OnOk result (path.new.items ≡ path.old.items) }
+    ensures rules { OnOk result (rules_view rules.new ≡ rules_view rules.old) }
+    ensures lines { OnOk result (IsAdded (IsNode (Q.question ask.now) (within_view within (rules_view rules.old)) name.now (path.old.items ++ name.now)) (lines_view lines.old) (lines_view lines.new)) }
+{
+    if is_special(name) {
+        return Ok(());
+    }
+    let len = path.len();
+    path.extend_from_slice(name)?;
+    if !ask.passes_over(path) {
+        match ask.kind_at(path)? {
+            Some(NodeKind::Directory) => {
+                let is_excluded = excludes(ask, within, rules, path, true)?;
+                walk_subfolder(ask, depth, is_excluded, path, rules, lines)?;
+            }
+            Some(NodeKind::File | NodeKind::Link) => {
+                let is_excluded = excludes(ask, within, rules, path, false)?;
+                ask.add_file(is_excluded, path, lines)?;
+            }
+            Some(NodeKind::Other) | None => {}
+        }
+    }
+    path.truncate(len);
+    Ok(())
+}
+
+/// Adds the lines of a folder at a path, which is ignored or not, and of what is below it.
+///
+/// # Errors
+/// Those of `walk_folder`.
+#[cycle(walk)]
+fn walk_subfolder<Q: Ask>(
+    ask: &Q,
+    depth: usize,
+    is_excluded: bool,
+    path: &mut Vec<u8>,
+    rules: &mut IgnoreRules,
+    lines: &mut Lines,
+) -> Result<(), FolderFault>
+    ensures path { OnOk result (path.new.items ≡ path.old.items) }
+    ensures rules { OnOk result (rules_view rules.new ≡ rules_view rules.old) }
+    ensures lines { OnOk result (IsAdded (IsSubfolder (Q.question ask.now) (rules_view rules.old) is_excluded path.old.items) (lines_view lines.old) (lines_view lines.new)) }
+{
+    if is_excluded && !ask.wants_ignored() {
+        return Ok(());
+    }
+    let (leads, has_entry) = (ask.leads(path), ask.has_entry(path));
+    let mut within = Within {
+        is_excluded,
+        is_one_enough: false,
+    };
+    let len = path.len();
+    path.extend_from_slice(b"/")?;
+    match ask.way_into(path, leads)? {
+        Way::Nothing => {}
+        Way::Line => lines.add_folder(ask.alloc(), has_entry, path, is_excluded)?,
+        Way::Each => walk_folder(ask, depth, within, path, rules, lines)?,
+        Way::Whole => {
+            within.is_one_enough = is_excluded || !ask.wants_ignored();
+            let start = lines.end();
+            walk_folder(ask, depth, within, path, rules, lines)?;
+            lines.collapse(ask.alloc(), start, has_entry, path)?;
+        }
+    }
+    path.truncate(len);
+    Ok(())
+}
+
+/// Returns whether a name is one of those that aren't files of the worktree.
+fn is_special(name: &[u8]) -> bool
+    ensures { result ≡ is_special name.now }
+{
+    is_word(name, b".git") || is_word(name, b".") || is_word(name, b"..")
+}
+
+/// Returns whether the node at a path is ignored.
+fn excludes<Q: Ask>(
+    ask: &Q,
+    within: Within,
+    rules: &IgnoreRules,
+    path: &[u8],
+    is_folder: bool,
+) -> Result<bool, AllocError>
+    ensures { IfOk result (λ it. it ≡ is_ignored (within_view within (rules_view rules.now)) path.now is_folder) }
+{
+    Ok(within.is_excluded || rules.is_matched(ask.alloc(), path, is_folder)?)
+}
