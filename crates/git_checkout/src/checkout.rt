@@ -225,7 +225,6 @@ where
         repository,
         worktree,
         top: front,
-        index,
     };
     let outer = outer_files_for(rt, request, repository)?;
     let untracked = untracked_for(request, &folders, &tops, &outer);

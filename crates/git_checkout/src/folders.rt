@@ -30,8 +30,6 @@ pub(crate) struct DiskFolders<'x, R, W> {
     pub(crate) worktree: &'x W,
     /// The worktree's folder. Empty for the working folder.
     pub(crate) top: &'x str,
-    /// The index, whose ignore files count in place of those that a sparse checkout leaves out.
-    pub(crate) index: &'x State,
 }
 
 impl<R: AllocGlobal + Env + Files, W: Worktree> Folders for DiskFolders<'_, R, W>
@@ -70,14 +68,19 @@ where
         }
     }
 
-    fn ignore_file(&self, folder: BStr<'_>, is_there: bool) -> Result<Option<Vec<u8>>, Fault> {
+    fn ignore_file(
+        &self,
+        index: &State,
+        folder: BStr<'_>,
+        is_there: bool,
+    ) -> Result<Option<Vec<u8>>, Fault> {
         let mut path = Vec::from_slice(self.rt.alloc(), folder.as_bytes())?;
         path.extend_from_slice(NAME)?;
         let path = BStr::new(path.as_slice());
         if is_there {
             return read_file(self.rt.alloc(), self.worktree, path);
         }
-        match self.index.entries_at(path) {
+        match index.entries_at(path) {
             [entry, ..] if entry.flags.contains(Flags::SKIP_WORKTREE) => {
                 let objects = LazyObjects {
                     rt: self.rt,

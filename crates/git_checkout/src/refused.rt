@@ -119,7 +119,7 @@ impl fmt::Display for Refused {
                 "the index isn't compared with HEAD, since {reason}: --worktree compares the files alone"
             ),
             Refused::IgnoresCase => f.write_str(
-                "untracked files aren't listed, since core.ignoreCase is true: without -u only tracked files are compared"
+                "untracked files aren't listed, since core.ignoreCase is true: without -u only tracked files are compared",
             ),
             Refused::NoCommit => f.write_str("HEAD isn't a commit"),
             Refused::Object(fault) => write!(f, "can't read HEAD's commit: {fault}"),

@@ -7,12 +7,16 @@ use std::alloc::{AllocError, Global};
 /// The day of the newest section of `CHANGELOG.md`: there are no releases to name.
 const VERSION: &str = "2026-11-30, unreleased";
 
+/// The values of `--untracked`.
+const UNTRACKED: &[&str] = &["no", "normal", "all"];
+
 /// What `--help` shows after the options.
 const EXAMPLES: &str = "\
 Examples:
   git dirty            list the tracked files that differ from HEAD or the index
   git dirty -q src     only set the exit status, for the files below src
   git dirty --staged   list what is staged
+  git dirty -u         list untracked files too, with the letters ??
   git dirty --explain README.md
                        say why README.md is listed, or isn't
 
@@ -63,6 +67,27 @@ fn columns_of(matches: &ArgMatches<'_>) -> Columns {
     Columns::Both
 }
 
+/// Returns the untracked files that are listed.
+fn untracked_of(matches: &ArgMatches<'_>) -> UntrackedFiles {
+    match matches.get_str("untracked") {
+        Some("normal") => UntrackedFiles::Normal,
+        Some("all") => UntrackedFiles::All,
+        Some(_) => UntrackedFiles::No,
+        None if matches.get_flag("ignored") => UntrackedFiles::Normal,
+        None => UntrackedFiles::No,
+    }
+}
+
+/// Returns the option for which a word is short, or the word. As in git, a value comes right after `-u`.
+pub fn whole_option(word: &str) -> &str {
+    match word {
+        "-uno" => "--untracked=no",
+        "-unormal" => "--untracked=normal",
+        "-uall" => "--untracked=all",
+        word => word,
+    }
+}
+
 /// Returns the parser of the command line.
 ///
 /// # Errors
@@ -78,6 +103,8 @@ pub fn command_line<'a>(alloc: Global) -> Result<Command<'a>, AllocError> {
         .arg(quiet(alloc))?
         .arg(staged(alloc)?)?
         .arg(worktree(alloc))?
+        .arg(untracked(alloc)?)?
+        .arg(ignored(alloc)?)?
         .arg(refresh(alloc))?
         .arg(explain(alloc)?)?
         .arg(json(alloc)?)?
@@ -150,6 +177,41 @@ fn worktree<'a>(alloc: Global) -> Arg<'a> {
         "List only how the files differ from the index",
     )
     .long("worktree")
+}
+
+/// Returns the option for untracked files.
+///
+/// # Errors
+/// Out of memory.
+fn untracked<'a>(alloc: Global) -> Result<Arg<'a>, AllocError> {
+    Arg::new(alloc, "untracked")
+        .short('u')
+        .long("untracked")
+        .value_name("MODE")
+        .help("List untracked files: no, normal (as with -u) or all")
+        .value_parser(UNTRACKED)
+        .hide_possible_values(true)
+        .num_args(0..=1)
+        .require_equals(true)
+        .action(ArgAction::Set)
+        .default_missing_value("normal")
+        .conflicts_with("staged")?
+        .conflicts_with("explain")
+}
+
+/// Returns the flag for ignored files.
+///
+/// # Errors
+/// Out of memory.
+fn ignored<'a>(alloc: Global) -> Result<Arg<'a>, AllocError> {
+    flag(
+        alloc,
+        "ignored",
+        "List ignored files too, and untracked ones as with -u",
+    )
+    .long("ignored")
+    .conflicts_with("staged")?
+    .conflicts_with("explain")
 }
 
 /// Returns the flag that stores times in the index.

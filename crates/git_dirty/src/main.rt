@@ -3,7 +3,7 @@
 
 mod arguments;
 
-use crate::arguments::{command_line, request_of};
+use crate::arguments::{command_line, request_of, whole_option};
 use clap::Error;
 use clap::error::ErrorKind;
 use git_status::print_failure;
@@ -68,8 +68,15 @@ fn words_of<R: AllocGlobal + Env>(rt: &R) -> Result<Vec<String>, &'static str> {
         Err(_) => return Err("the arguments aren't UTF-8"),
     };
     let mut words = Vec::new(rt.alloc());
+    let mut are_paths = false;
     for word in found {
-        words.push(word).map_err(|_| OUT_OF_MEMORY)?;
+        are_paths = are_paths || word.as_str() == "--";
+        let whole = if are_paths {
+            word
+        } else {
+            String::from_str(rt.alloc(), whole_option(word.as_str())).map_err(|_| OUT_OF_MEMORY)?
+        };
+        words.push(whole).map_err(|_| OUT_OF_MEMORY)?;
     }
     Ok(words)
 }

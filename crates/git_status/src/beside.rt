@@ -51,6 +51,7 @@ pub trait FindBeside {
 }
 
 /// A search for staged changes, and one for the nodes that the index doesn't have.
+#[derive(Clone, Copy)]
 pub struct Searches<'a, H, U> {
     /// Finds the staged changes.
     pub head: &'a H,

@@ -2,7 +2,7 @@
 
 use bstr::BStr;
 use status_base::worktree::NodeKind;
-use status_index::Fault;
+use status_index::{Fault, State};
 use std::alloc::{AllocError, Global};
 use thiserror::Error;
 
@@ -39,11 +39,17 @@ pub trait Folders {
     fn kind(&self, path: BStr<'_>) -> Result<Option<NodeKind>, Fault>
         ensures { IfOk result (λ kind. may_be self.now (bstr_bytes path.entry) kind) };
 
-    /// Returns the bytes of a folder's ignore file. None if it has none. `is_there` is whether a node of that name is in the folder.
+    /// Returns the bytes of a folder's ignore file. None if it has none. `is_there` is whether a node of that name is in the folder,
+    /// and the index may have a file in place of one that isn't.
     ///
     /// # Errors
     /// It can't be read, or out of memory.
-    fn ignore_file(&self, folder: BStr<'_>, is_there: bool) -> Result<Option<Vec<u8>>, Fault>
+    fn ignore_file(
+        &self,
+        index: &State,
+        folder: BStr<'_>,
+        is_there: bool,
+    ) -> Result<Option<Vec<u8>>, Fault>
         ensures { IfOk result (λ bytes. may_ignore self.now (bstr_bytes folder.entry) (option_map (λ v. v.items) bytes)) };
 
     /// Returns whether a folder is the top of another repository.

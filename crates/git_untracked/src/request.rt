@@ -69,7 +69,10 @@ impl<F: Folders, P: Selection> Ask for Request<'_, F, P> {
         rules: &mut IgnoreRules,
     ) -> Result<(), FolderFault> {
         let is_there = names.iter().any(|name| is_word(name, IGNORE_FILE));
-        match self.folders.ignore_file(BStr::new(folder), is_there) {
+        match self
+            .folders
+            .ignore_file(self.index, BStr::new(folder), is_there)
+        {
             Ok(Some(bytes)) => Ok(rules.read(self.alloc, folder, &bytes)?),
             Ok(None) => Ok(()),
             Err(fault) => Err(FolderFault::at(self.alloc, folder, fault)),
