@@ -48,7 +48,8 @@ abbrev pub is_side : IndexEntry → Bool
 is_side e = not (stage_of e == 0)
 
 -- By the entries of a path no line is at it or below it: a submodule is there, or a tracked file. If a folder is in place of the file, its
--- nodes count if all untracked files or ignored nodes are wanted, or if the path is in conflict, so that a side may have a folder.
+-- nodes count if all untracked files or ignored nodes are wanted, if a path below is selected by itself, or if the path is in conflict, so
+-- that a side may have a folder.
 abbrev pub is_settled : Bool → List IndexEntry → Bool
 is_settled wanted [] = false
 is_settled wanted (e ∷ es) = list_any (λ x. is_submodule x.mode) (e ∷ es) || not (wanted || list_any is_side (e ∷ es))
@@ -56,7 +57,7 @@ is_settled wanted (e ∷ es) = list_any (λ x. is_submodule x.mode) (e ∷ es) |
 -- No line is at a path or below it: it is settled by its entries, or nothing there is selected.
 abbrev pub is_passed_over : Question → List ℕ → Bool
 is_passed_over q path =
-    is_settled (q.all || q.ignored) (filter (is_at path) q.index) || not (q.selects path true || q.leads path)
+    is_settled (q.all || (q.ignored || q.leads path)) (filter (is_at path) q.index) || not (q.selects path true || q.leads path)
 
 abbrev pub file_rules : List ℕ → Option (List ℕ) → List Rule
 file_rules folder None = []

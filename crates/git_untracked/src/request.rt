@@ -81,8 +81,11 @@ impl<F: Folders, P: Selection> Ask for Request<'_, F, P> {
 
     fn passes_over(&self, path: &[u8]) -> bool {
         let path = BStr::new(path);
-        is_settled(self.index.entries_at(path), self.all || self.ignored)
-            || !(self.paths.selects(path, true) || self.paths.leads(path))
+        let leads = self.paths.leads(path);
+        is_settled(
+            self.index.entries_at(path),
+            self.all || self.ignored || leads,
+        ) || !(self.paths.selects(path, true) || leads)
     }
 
     fn kind_at(&self, path: &[u8]) -> Result<Option<NodeKind>, FolderFault> {
@@ -131,8 +134,8 @@ impl<F: Folders, P: Selection> Ask for Request<'_, F, P> {
     }
 }
 
-/// Returns whether no line is at a path or below it by its entries. `wanted` is whether all untracked files or ignored nodes
-/// are wanted.
+/// Returns whether no line is at a path or below it by its entries. `wanted` is whether all untracked files, ignored nodes or a
+/// path below are wanted.
 fn is_settled(entries: &[Entry], wanted: bool) -> bool
     ensures { (backing : PathStorage) → result ≡ is_settled wanted (index_entries backing entries.now) }
 {
