@@ -1,0 +1,5 @@
+mod Collapsing
+mod Ordering
+mod Ranges
+mod Settled
+mod Walking

@@ -16,10 +16,6 @@ wanted_line q is_ignored path = if is_ignored && not q.ignored then no_lines els
 abbrev pub file_lines : Question → Bool → List ℕ → Lines
 file_lines q is_ignored path = if is_tracked q.index path || not (q.selects path false) then no_lines else wanted_line q is_ignored path
 
--- The line of a folder. A folder in place of a tracked file has none.
-abbrev pub folder_line : Question → List ℕ → Bool → Lines
-folder_line q path = own_line (is_tracked q.index path) (path ++ 47 ∷ [])
-
 -- Whether the node at a path is ignored: it is within an ignored folder, or the rules exclude it.
 abbrev pub is_ignored : Within → List ℕ → Bool → Bool
 is_ignored w path is_folder = w.excluded || is_matched w.rules path is_folder
@@ -36,37 +32,41 @@ mutual
   pub data AreNodes (q : Question) : List ℕ → Within → List (List ℕ) → Lines → Type 0 where
     none : (folder : List ℕ) (w : Within) → AreNodes q folder w [] no_lines
     next : (folder : List ℕ) (w : Within) (name : List ℕ) (names : List (List ℕ)) (lines more : Lines)
-        → IsNode q w name (folder ++ name) lines → AreNodes q folder w names more → AreNodes q folder w (name ∷ names) (and_lines lines more)
+        → IsNamed q w folder name lines → AreNodes q folder w names more → AreNodes q folder w (name ∷ names) (and_lines lines more)
     enough : (folder : List ℕ) (w : Within) (name : List ℕ) (names : List (List ℕ)) (lines : Lines)
-        → IsNode q w name (folder ++ name) lines → w.one ≡ true → is_none_of lines ≡ false → AreNodes q folder w (name ∷ names) lines
+        → IsNamed q w folder name lines → w.one ≡ true → is_none_of lines ≡ false → AreNodes q folder w (name ∷ names) lines
 
-  -- The lines of the node of a name, and of what is below it.
-  pub data IsNode (q : Question) : Within → List ℕ → List ℕ → Lines → Type 0 where
-    special : (w : Within) (name path : List ℕ) → is_special name ≡ true → IsNode q w name path no_lines
-    passed_over : (w : Within) (name path : List ℕ) → is_passed_over q path ≡ true → IsNode q w name path no_lines
-    nothing : (w : Within) (name path : List ℕ) → q.may_be path None → IsNode q w name path no_lines
-    other : (w : Within) (name path : List ℕ) → q.may_be path (Some kinds.Other) → IsNode q w name path no_lines
-    file : (w : Within) (name path : List ℕ) → is_special name ≡ false → is_passed_over q path ≡ false
-        → q.may_be path (Some kinds.File) ⊎ q.may_be path (Some kinds.Link) → IsNode q w name path (file_lines q (is_ignored w path false) path)
-    folder : (w : Within) (name path : List ℕ) (lines : Lines) → is_special name ≡ false → is_passed_over q path ≡ false
-        → q.may_be path (Some kinds.Directory) → IsSubfolder q w.rules (is_ignored w path true) path lines → IsNode q w name path lines
+  -- The lines of a name in a folder.
+  pub data IsNamed (q : Question) : Within → List ℕ → List ℕ → Lines → Type 0 where
+    special : (w : Within) (folder name : List ℕ) → is_special name ≡ true → IsNamed q w folder name no_lines
+    node : (w : Within) (folder name : List ℕ) (lines : Lines) → is_special name ≡ false → IsNode q w (folder ++ name) lines → IsNamed q w folder name lines
 
-  -- The lines of a folder that is ignored or not. An ignored one is entered only if ignored nodes are wanted. With entries below it, it has no
-  -- line itself. Another repository's is one line. Otherwise the lines of what is in it are its lines, or it stands for them.
-  pub data IsSubfolder (q : Question) : List Rule → Bool → List ℕ → Lines → Type 0 where
-    unwanted : (rules : List Rule) (excluded : Bool) (path : List ℕ) → (excluded && not q.ignored) ≡ true → IsSubfolder q rules excluded path no_lines
-    with_entries : (rules : List Rule) (excluded : Bool) (path : List ℕ) (lines : Lines) → (excluded && not q.ignored) ≡ false
-        → has_below q.index (path ++ 47 ∷ []) ≡ true → IsFolder q (path ++ 47 ∷ []) (record { rules = rules; excluded = excluded; one = false }) lines → IsSubfolder q rules excluded path lines
-    repository : (rules : List Rule) (excluded : Bool) (path : List ℕ) → (excluded && not q.ignored) ≡ false
-        → has_below q.index (path ++ 47 ∷ []) ≡ false → q.may_nest (path ++ 47 ∷ []) true
-        → IsSubfolder q rules excluded path (if q.leads path then no_lines else folder_line q path excluded)
-    each : (rules : List Rule) (excluded : Bool) (path : List ℕ) (lines : Lines) → (excluded && not q.ignored) ≡ false
-        → has_below q.index (path ++ 47 ∷ []) ≡ false → q.may_nest (path ++ 47 ∷ []) false → (q.all || q.leads path) ≡ true
-        → IsFolder q (path ++ 47 ∷ []) (record { rules = rules; excluded = excluded; one = false }) lines → IsSubfolder q rules excluded path lines
-    whole : (rules : List Rule) (excluded : Bool) (path : List ℕ) (lines : Lines) → (excluded && not q.ignored) ≡ false
-        → has_below q.index (path ++ 47 ∷ []) ≡ false → q.may_nest (path ++ 47 ∷ []) false → (q.all || q.leads path) ≡ false
-        → IsFolder q (path ++ 47 ∷ []) (record { rules = rules; excluded = excluded; one = excluded || not q.ignored }) lines
-        → IsSubfolder q rules excluded path (collapsed (folder_line q path) lines)
+  -- The lines of the node at a path, and of what is below it.
+  pub data IsNode (q : Question) : Within → List ℕ → Lines → Type 0 where
+    passed_over : (w : Within) (path : List ℕ) → is_passed_over q path ≡ true → IsNode q w path no_lines
+    nothing : (w : Within) (path : List ℕ) → q.may_be path None → IsNode q w path no_lines
+    other : (w : Within) (path : List ℕ) → q.may_be path (Some kinds.Other) → IsNode q w path no_lines
+    file : (w : Within) (path : List ℕ) → is_passed_over q path ≡ false
+        → q.may_be path (Some kinds.File) ⊎ q.may_be path (Some kinds.Link) → IsNode q w path (file_lines q (is_ignored w path false) path)
+    left_out : (w : Within) (path : List ℕ) → q.may_be path (Some kinds.Directory) → (is_ignored w path true && not q.ignored) ≡ true → IsNode q w path no_lines
+    folder : (w : Within) (path : List ℕ) (lines : Lines) → is_passed_over q path ≡ false → q.may_be path (Some kinds.Directory)
+        → (is_ignored w path true && not q.ignored) ≡ false
+        → IsSubfolder q w.rules (is_ignored w path true) (q.leads path) (is_tracked q.index path) (path ++ 47 ∷ []) lines → IsNode q w path lines
+
+  -- The lines of a folder that is ignored or not, below which a path is selected by itself or not, and at whose path is an entry or not. With
+  -- entries below it, it has no line itself. Another repository's is one line. Otherwise the lines of what is in it are its lines, or it stands
+  -- for them: if none of them is of an ignored node, or all are, the first one is enough.
+  pub data IsSubfolder (q : Question) : List Rule → Bool → Bool → Bool → List ℕ → Lines → Type 0 where
+    with_entries : (rules : List Rule) (excluded leads tracked : Bool) (folder : List ℕ) (lines : Lines) → has_below q.index folder ≡ true
+        → IsFolder q folder (record { rules = rules; excluded = excluded; one = false }) lines → IsSubfolder q rules excluded leads tracked folder lines
+    repository : (rules : List Rule) (excluded leads tracked : Bool) (folder : List ℕ) → has_below q.index folder ≡ false → q.may_nest folder true
+        → IsSubfolder q rules excluded leads tracked folder (if leads then no_lines else own_line tracked folder excluded)
+    each : (rules : List Rule) (excluded leads tracked : Bool) (folder : List ℕ) (lines : Lines) → has_below q.index folder ≡ false → q.may_nest folder false
+        → (q.all || leads) ≡ true → IsFolder q folder (record { rules = rules; excluded = excluded; one = false }) lines
+        → IsSubfolder q rules excluded leads tracked folder lines
+    whole : (rules : List Rule) (excluded leads tracked : Bool) (folder : List ℕ) (lines : Lines) → has_below q.index folder ≡ false → q.may_nest folder false
+        → (q.all || leads) ≡ false → IsFolder q folder (record { rules = rules; excluded = excluded; one = excluded || not q.ignored }) lines
+        → IsSubfolder q rules excluded leads tracked folder (collapsed (own_line tracked folder) lines)
 
 -- The lines of a worktree, with the rules of files that aren't in it: each once, in order.
 abbrev pub AreUntracked : Question → List Rule → Lines → Type 0

@@ -1,6 +1,11 @@
 //! The lines of the nodes that an index doesn't have.
 
 ghost use Rattle.std.specs.Prelude.{◌≡◌, not, IfOk, OnOk};
+ghost use Rattle.std.specs.Cmp.Lexicographic.{slice_cmp};
+ghost use Rattle.std.specs.List.{dedup};
+ghost use Rattle.std.specs.List.Sorted.{IsPermutation, IsSortedByKey};
+ghost use Rattle.std.specs.Ordering.{nat_cmp};
+ghost use Rattle.std.specs.Str.{bytes_eq};
 ghost use Rattle.git_untracked.specs.Lines.{AreInOrder, IsEnd, IsListOf, Lines as ViewOfLines, and_lines, collapsed, is_none_of, line_of, lines_view, no_lines, own_line, paths_of};
 
 use std::alloc::{AllocError, Global};
@@ -143,7 +148,25 @@ impl Lines {
 fn in_order(mut paths: Vec<Vec<u8>>) -> Result<Vec<Vec<u8>>, AllocError>
     ensures { IfOk result (λ sorted. AreInOrder (paths_of paths.items) (paths_of sorted.items)) }
 {
-    paths.sort_by(|one, other| one.as_slice().cmp(other.as_slice()))?;
-    paths.dedup_by(|one, other| one.as_slice() == other.as_slice());
+    sort(&mut paths)?;
+    remove_repeated(&mut paths);
     Ok(paths)
+}
+
+/// Sorts paths by their bytes.
+///
+/// # Errors
+/// Out of memory.
+fn sort(paths: &mut Vec<Vec<u8>>) -> Result<(), AllocError>
+    ensures bag { IsPermutation paths.old.items paths.new.items }
+    ensures order { OnOk result (IsSortedByKey (λ path. path.items) (slice_cmp nat_cmp) paths.new.items) }
+{
+    paths.sort_by(|one, other| one.as_slice().cmp(other.as_slice()))
+}
+
+/// Removes the paths that are those before them.
+fn remove_repeated(paths: &mut Vec<Vec<u8>>)
+    ensures { paths_of paths.new.items ≡ dedup bytes_eq (paths_of paths.old.items) }
+{
+    paths.dedup();
 }

@@ -1,6 +1,9 @@
 //! The request of a walk.
 
-ghost use Rattle.std.specs.Prelude.{◌≡◌, ◌<◌, length};
+ghost use Rattle.std.specs.Prelude.{◌≡◌, ◌==◌, ◌<◌, not, length};
+ghost use Rattle.std.specs.List.{list_any};
+ghost use Rattle.status_index.specs.FlagBits.{stage_of_bits};
+ghost use Rattle.status_index.specs.Mode.{is_submodule};
 ghost use Rattle.status_index.specs.Entries.{index_entries};
 ghost use Rattle.status_index.specs.States.{index_of};
 ghost use Rattle.status_index.specs.declared.entry.PathStorage.{PathStorage};
@@ -139,11 +142,24 @@ impl<F: Folders, P: Selection> Ask for Request<'_, F, P> {
 fn is_settled(entries: &[Entry], wanted: bool) -> bool
     ensures { (backing : PathStorage) → result ≡ is_settled wanted (index_entries backing entries.now) }
 {
-    if entries.is_empty() {
-        return false;
+    match entries {
+        [] => false,
+        [_, ..] => has_submodule(entries) || !(wanted || has_side(entries)),
     }
+}
+
+/// Returns whether one of these entries is a submodule's.
+fn has_submodule(entries: &[Entry]) -> bool
+    ensures { result ≡ list_any (λ e. is_submodule e.mode) entries.now }
+{
     entries.iter().any(|entry| entry.mode.is_submodule())
-        || !(wanted || entries.iter().any(|entry| entry.stage_raw() != 0))
+}
+
+/// Returns whether one of these entries is a side of a conflict.
+fn has_side(entries: &[Entry]) -> bool
+    ensures { result ≡ list_any (λ e. not (stage_of_bits e.flags.0 == 0)) entries.now }
+{
+    entries.iter().any(|entry| entry.stage_raw() != 0)
 }
 
 /// Returns whether an entry is below a folder.

@@ -1,11 +1,12 @@
 //! The walk through the folders of a worktree.
 
-ghost use Rattle.std.specs.Prelude.{◌≡◌, ◌++◌, IfOk, OnOk};
+ghost use Rattle.std.specs.Prelude.{◌≡◌, ◌<◌, ◌++◌, ◌&&◌, ◌||◌, not, IfOk, List, OnOk, length};
+ghost use Rattle.git_ignore.specs.Rules.{Rule};
 ghost use Rattle.git_ignore.specs.Views.{rules_view};
 ghost use Rattle.git_untracked.specs.Lines.{lines_view, paths_of};
 ghost use Rattle.git_untracked.specs.Requests.{IsAdded, within_view};
-ghost use Rattle.git_untracked.specs.Questions.{is_special};
-ghost use Rattle.git_untracked.specs.Walks.{AreNodes, IsFolder, IsNode, IsSubfolder, is_ignored};
+ghost use Rattle.git_untracked.specs.Questions.{HasRules, is_special};
+ghost use Rattle.git_untracked.specs.Walks.{AreNodes, IsFolder, IsNamed, IsNode, IsSubfolder, is_ignored};
 
 use crate::ask::{Ask, Way};
 use crate::folders::FolderFault;
@@ -52,9 +53,7 @@ pub(crate) fn walk_folder<Q: Ask>(
         return Ok(());
     };
     let count = rules.count();
-    if !within.is_excluded {
-        ask.add_rules(path, &names, rules)?;
-    }
+    add_rules(ask, within, path, &names, rules)?;
     walk_names(ask, fewer, within, &names, path, rules, lines)?;
     rules.truncate(count);
     Ok(())
@@ -81,7 +80,7 @@ fn walk_names<Q: Ask>(
     let mut rest = names;
     'names: while let [name, after @ ..] = rest {
         let before = lines.end();
-        walk_node(ask, depth, within, name, path, rules, lines)?;
+        walk_name(ask, depth, within, name, path, rules, lines)?;
         if within.is_one_enough && lines.go_on(before) {
             return Ok(());
         }
@@ -90,12 +89,12 @@ fn walk_names<Q: Ask>(
     Ok(())
 }
 
-/// Adds the lines of the node of a name in a folder, and of what is below it.
+/// Adds the lines of a name in a folder.
 ///
 /// # Errors
 /// Those of `walk_folder`.
 #[cycle(walk)]
-fn walk_node<Q: Ask>(
+fn walk_name<Q: Ask>(
     ask: &Q,
     depth: usize,
     within: Within,
@@ -106,31 +105,74 @@ fn walk_node<Q: Ask>(
 ) -> Result<(), FolderFault>
     ensures path { OnOk result (path.new.items ≡ path.old.items) }
     ensures rules { OnOk result (rules_view rules.new ≡ rules_view rules.old) }
-    ensures lines { OnOk result (IsAdded (IsNode (Q.question ask.now) (within_view within (rules_view rules.old)) name.now (path.old.items ++ name.now)) (lines_view lines.old) (lines_view lines.new)) }
+    ensures lines { OnOk result (IsAdded (IsNamed (Q.question ask.now) (within_view within (rules_view rules.old)) path.old.items name.now) (lines_view lines.old) (lines_view lines.new)) }
 {
     if is_special(name) {
         return Ok(());
     }
     let len = path.len();
     path.extend_from_slice(name)?;
-    if !ask.passes_over(path) {
-        match ask.kind_at(path)? {
-            Some(NodeKind::Directory) => {
-                let is_excluded = excludes(ask, within, rules, path, true)?;
-                walk_subfolder(ask, depth, is_excluded, path, rules, lines)?;
-            }
-            Some(NodeKind::File | NodeKind::Link) => {
-                let is_excluded = excludes(ask, within, rules, path, false)?;
-                ask.add_file(is_excluded, path, lines)?;
-            }
-            Some(NodeKind::Other) | None => {}
-        }
-    }
+    walk_node(ask, depth, within, path, rules, lines)?;
     path.truncate(len);
     Ok(())
 }
 
-/// Adds the lines of a folder at a path, which is ignored or not, and of what is below it.
+/// Adds the lines of the node at a path, and of what is below it.
+///
+/// # Errors
+/// Those of `walk_folder`.
+#[cycle(walk)]
+fn walk_node<Q: Ask>(
+    ask: &Q,
+    depth: usize,
+    within: Within,
+    path: &mut Vec<u8>,
+    rules: &mut IgnoreRules,
+    lines: &mut Lines,
+) -> Result<(), FolderFault>
+    ensures path { OnOk result (path.new.items ≡ path.old.items) }
+    ensures rules { OnOk result (rules_view rules.new ≡ rules_view rules.old) }
+    ensures lines { OnOk result (IsAdded (IsNode (Q.question ask.now) (within_view within (rules_view rules.old)) path.old.items) (lines_view lines.old) (lines_view lines.new)) }
+{
+    if ask.passes_over(path) {
+        return Ok(());
+    }
+    let kind = match ask.kind_at(path)? {
+        Some(kind) => kind,
+        None => return Ok(()),
+    };
+    match kind {
+        NodeKind::Other => Ok(()),
+        NodeKind::File | NodeKind::Link => {
+            let is_excluded = excludes(ask, within, rules, path, false)?;
+            ask.add_file(is_excluded, path, lines)
+        }
+        NodeKind::Directory => {
+            let is_excluded = excludes(ask, within, rules, path, true)?;
+            if leaves_out(ask, is_excluded) {
+                return Ok(());
+            }
+            let (leads, has_entry) = (ask.leads(path), ask.has_entry(path));
+            let len = path.len();
+            path.extend_from_slice(b"/")?;
+            walk_subfolder(
+                ask,
+                depth,
+                is_excluded,
+                leads,
+                has_entry,
+                path,
+                rules,
+                lines,
+            )?;
+            path.truncate(len);
+            Ok(())
+        }
+    }
+}
+
+/// Adds the lines of a folder, which is ignored or not, and of what is below it. `leads` is whether a path below it is selected by
+/// itself, and `has_entry` whether an entry has its path.
 ///
 /// # Errors
 /// Those of `walk_folder`.
@@ -139,37 +181,35 @@ fn walk_subfolder<Q: Ask>(
     ask: &Q,
     depth: usize,
     is_excluded: bool,
+    leads: bool,
+    has_entry: bool,
     path: &mut Vec<u8>,
     rules: &mut IgnoreRules,
     lines: &mut Lines,
 ) -> Result<(), FolderFault>
+    requires { 0 < length path.old.items }
     ensures path { OnOk result (path.new.items ≡ path.old.items) }
     ensures rules { OnOk result (rules_view rules.new ≡ rules_view rules.old) }
-    ensures lines { OnOk result (IsAdded (IsSubfolder (Q.question ask.now) (rules_view rules.old) is_excluded path.old.items) (lines_view lines.old) (lines_view lines.new)) }
+    ensures lines { OnOk result (IsAdded (IsSubfolder (Q.question ask.now) (rules_view rules.old) is_excluded leads has_entry path.old.items) (lines_view lines.old) (lines_view lines.new)) }
 {
-    if is_excluded && !ask.wants_ignored() {
-        return Ok(());
-    }
-    let (leads, has_entry) = (ask.leads(path), ask.has_entry(path));
-    let mut within = Within {
+    let each = Within {
         is_excluded,
         is_one_enough: false,
     };
-    let len = path.len();
-    path.extend_from_slice(b"/")?;
     match ask.way_into(path, leads)? {
-        Way::Nothing => {}
-        Way::Line => lines.add_folder(ask.alloc(), has_entry, path, is_excluded)?,
-        Way::Each => walk_folder(ask, depth, within, path, rules, lines)?,
+        Way::Nothing => Ok(()),
+        Way::Line => Ok(lines.add_folder(ask.alloc(), has_entry, path, is_excluded)?),
+        Way::Each => walk_folder(ask, depth, each, path, rules, lines),
         Way::Whole => {
-            within.is_one_enough = is_excluded || !ask.wants_ignored();
-            let start = lines.end();
+            let within = Within {
+                is_excluded,
+                is_one_enough: is_one_enough(ask, is_excluded),
+            };
+            let end = lines.end();
             walk_folder(ask, depth, within, path, rules, lines)?;
-            lines.collapse(ask.alloc(), start, has_entry, path)?;
+            Ok(lines.collapse(ask.alloc(), end, has_entry, path)?)
         }
     }
-    path.truncate(len);
-    Ok(())
 }
 
 /// Returns whether a name is one of those that aren't files of the worktree.
@@ -190,4 +230,37 @@ fn excludes<Q: Ask>(
     ensures { IfOk result (λ it. it ≡ is_ignored (within_view within (rules_view rules.now)) path.now is_folder) }
 {
     Ok(within.is_excluded || rules.is_matched(ask.alloc(), path, is_folder)?)
+}
+
+/// Returns whether a folder isn't entered, since it is ignored and ignored nodes have no lines.
+fn leaves_out<Q: Ask>(ask: &Q, is_excluded: bool) -> bool
+    ensures { result ≡ (is_excluded && not (Q.question ask.now).ignored) }
+{
+    is_excluded && !ask.wants_ignored()
+}
+
+/// Returns whether the first line is enough of a folder that stands for what is in it.
+fn is_one_enough<Q: Ask>(ask: &Q, is_excluded: bool) -> bool
+    ensures { result ≡ (is_excluded || not (Q.question ask.now).ignored) }
+{
+    is_excluded || !ask.wants_ignored()
+}
+
+/// Adds the rules of a folder's ignore file to those of the folders above. That of an ignored folder isn't read.
+///
+/// # Errors
+/// The file can't be read, or out of memory.
+fn add_rules<Q: Ask>(
+    ask: &Q,
+    within: Within,
+    folder: &[u8],
+    names: &[Vec<u8>],
+    rules: &mut IgnoreRules,
+) -> Result<(), FolderFault>
+    ensures { OnOk result ((more : List Rule) × (rules_view rules.new ≡ rules_view rules.old ++ more) × HasRules (Q.question ask.now) folder.now (within_view within (rules_view rules.old)) (rules_view rules.new)) }
+{
+    if within.is_excluded {
+        return Ok(());
+    }
+    ask.add_rules(folder, names, rules)
 }
