@@ -1,6 +1,6 @@
 -- The lines of a walk, step by step.
-use Rattle.std.proofs.Common.{◌≡◌, ◌∙◌, ◌⊎◌, inl, inr, ℕ, ◌&&◌, ◌||◌, not, Bool, true, false, List, [], ◌∷◌, ◌++◌, Option, Some, None, length, take, drop, ◌<◌, Vec, slice_get, refl, sym, ap, subst, append_assoc, append-nil, arith}
-use Rattle.std.proofs.lemmas.Option.{same_Some}
+use Rattle.std.proofs.Common.{◌≡◌, ◌∙◌, ◌⊎◌, inl, inr, ℕ, ◌&&◌, ◌||◌, not, Bool, true, false, List, [], ◌∷◌, ◌++◌, Option, Some, None, length, take, drop, ◌<◌, ◌≤◌, ◌-◌, Vec, slice_index_or, refl, sym, ap, subst, append_assoc, append-nil, arith}
+use Rattle.std.proofs.lemmas.List.{take_rest}
 use Rattle.std.specs.Global.{Global}
 use Rattle.status_index.specs.declared.stat.NodeKind.TheVariants as kinds
 use Rattle.git_ignore.specs.Rules.{Rule}
@@ -58,10 +58,16 @@ module _ (q : Question) (folder : List ℕ) (w : Within) (names : List (List ℕ
       )
 
 -- A list of paths begins with this one.
-pub split_paths : (paths : List (Vec ℕ Global)) (name : Vec ℕ Global) → slice_get paths 0 ≡ Some name → paths_of paths ≡ name.items ∷ paths_of (drop 1 paths)
-split_paths [] name h = absurd (cc)
-split_paths (path ∷ paths) name h = ap (λ (p : Vec ℕ Global). p.items ∷ paths_of paths) (same_Some path name h)
+pub split_paths : (paths : List (Vec ℕ Global)) (name d : Vec ℕ Global) → name ≡ slice_index_or paths 0 d → 1 ≤ length paths
+    → paths_of paths ≡ name.items ∷ paths_of (take (length paths - 1) (drop 1 paths))
+split_paths [] name d h some = absurd (omega (arith, some))
+split_paths (path ∷ paths) name d h some =
+    ap (λ (p : Vec ℕ Global). p.items ∷ paths_of paths) (sym h) ∙ ap (λ (rest : List (Vec ℕ Global)). name.items ∷ paths_of rest) (sym (take_rest (path ∷ paths) 1))
 
 pub no_paths : (paths : List (Vec ℕ Global)) → length paths < 1 → paths_of paths ≡ []
 no_paths [] h = refl
 no_paths (path ∷ paths) h = absurd (omega (arith, h))
+
+pub not_true : (b : Bool) → not b ≡ true → b ≡ false
+not_true true h = absurd (cc)
+not_true false h = refl

@@ -10,8 +10,6 @@ pub mod folders;
 pub mod lines;
 mod request;
 pub mod selection;
-#[cfg(test)]
-mod tests;
 pub mod untracked;
 mod walk;
 

@@ -1,3 +1,0 @@
-//! Tests.
-#[test]
-fn nothing() {}
