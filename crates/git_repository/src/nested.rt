@@ -5,7 +5,8 @@ use crate::git_dir::{Refusal, git_dir_in};
 use std::alloc::AllocError;
 use std::rt::Files;
 
-/// Returns whether a folder is the top of a repository's worktree. As in git, a `.git` that leads to no repository makes none.
+/// Returns whether a folder is the top of a repository's worktree. As in git, a `.git` that leads to no repository makes none, and
+/// a file `.git` that can't be read makes one.
 ///
 /// # Errors
 /// Out of memory.
@@ -13,6 +14,6 @@ pub fn is_repository<R: AllocGlobal + Files>(rt: &R, folder: &str) -> Result<boo
     match git_dir_in(rt, folder, Refusal::IsMissing) {
         Ok(found) => Ok(found.is_some()),
         Err(RepositoryError::Memory(error)) => Err(error),
-        Err(_) => Ok(false),
+        Err(error) => Ok(error.is_unreadable()),
     }
 }

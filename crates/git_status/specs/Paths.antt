@@ -1,6 +1,7 @@
 -- Which paths a list of files and folders selects.
 use Rattle.std.specs.Prelude.{ℕ, ◌==◌, ◌&&◌, ◌||◌, not, Bool, true, nat_eq, List, [], ◌∷◌, length, drop}
 use Rattle.std.specs.List.{list_any, starts_with}
+use Rattle.std.specs.Str.{bytes_eq}
 use Rattle.status_index.specs.Entries.{IndexEntry}
 use Rattle.status_index.specs.States.{index_of}
 use Rattle.status_index.specs.Stretch.{is_at}
@@ -27,9 +28,13 @@ is_selected (top ∷ more) path is_dir = list_any (is_within path is_dir) (top �
 abbrev pub is_above : List ℕ → Top → Bool
 is_above folder top = starts_with nat_eq top.path.now folder && is_component_end false (drop (length folder) top.path.now)
 
--- A list selects a path below a folder by itself.
+-- Exactly this folder is selected, with a slash.
+abbrev pub is_exact : List ℕ → Top → Bool
+is_exact folder top = top.is_folder && bytes_eq top.path.now folder
+
+-- A list selects a path below a folder by itself. None if it has exactly the folder.
 abbrev pub leads : List Top → List ℕ → Bool
-leads tops folder = list_any (is_above folder) tops
+leads tops folder = list_any (is_above folder) tops && not (list_any (is_exact folder) tops)
 
 -- The prefix by which entries are searched: the list's only path, or nothing.
 abbrev pub search_prefix : List Top → List ℕ

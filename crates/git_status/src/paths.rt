@@ -4,7 +4,7 @@ ghost use Rattle.std.specs.Prelude.{◌≡◌};
 ghost use Rattle.std.specs.List.{list_any};
 ghost use Rattle.bstr.specs.BStr.{bstr_bytes};
 ghost use Rattle.status_index.specs.States.{index_of};
-ghost use Rattle.git_status.specs.Paths.{is_above, is_component_end, is_left_out, is_within};
+ghost use Rattle.git_status.specs.Paths.{is_above, is_component_end, is_exact, is_left_out, is_within};
 
 use bstr::BStr;
 use git_untracked::Selection;
@@ -77,6 +77,7 @@ impl Selection for Tops<'_> {
     fn leads(&self, folder: BStr<'_>) -> bool {
         let folder = folder.as_bytes();
         self.tops.iter().any(|top| is_above(folder, top))
+            && !self.tops.iter().any(|top| is_exact(folder, top))
     }
 }
 
@@ -86,6 +87,13 @@ fn is_above(folder: &[u8], top: &Top<'_>) -> bool
 {
     let path = top.path;
     path.starts_with(folder) && path.len() > folder.len() && path[folder.len()] == b'/'
+}
+
+/// Whether exactly a folder is selected, with a slash.
+fn is_exact(folder: &[u8], top: &Top<'_>) -> bool
+    ensures { result ≡ is_exact folder.now top.now }
+{
+    top.is_folder && top.path == folder
 }
 
 /// Whether an entry that is left out has a path.

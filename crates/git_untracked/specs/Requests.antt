@@ -1,5 +1,5 @@
 -- What the parts of the code are in the words of a walk.
-use Rattle.std.specs.Prelude.{◌≡◌, ◌⊎◌, ◌||◌, Bool, true, false, List, ℕ}
+use Rattle.std.specs.Prelude.{◌≡◌, ◌⊎◌, ◌&&◌, ◌||◌, not, Bool, true, false, List, ℕ}
 use Rattle.git_ignore.specs.Rules.{Rule}
 use Rattle.git_untracked.specs.Lines.{Lines, and_lines}
 use Rattle.git_untracked.specs.Questions.{Question, Within, has_below}
@@ -10,12 +10,12 @@ use Rattle.git_untracked.specs.declared.walk.Within.{Within as WithinType}
 abbrev pub within_view : WithinType → List Rule → Within
 within_view w rules = record { rules = rules; excluded = w.is_excluded; one = w.is_one_enough }
 
--- How a folder of this path is entered, below which a path is selected by itself or not.
-abbrev pub IsWay : Question → List ℕ → Bool → Way → Type 0
-IsWay q folder leads ways.Each = (has_below q.index folder ≡ true) ⊎ ((has_below q.index folder ≡ false) × q.may_nest folder false × ((q.all || leads) ≡ true))
-IsWay q folder leads ways.Whole = (has_below q.index folder ≡ false) × q.may_nest folder false × ((q.all || leads) ≡ false)
-IsWay q folder leads ways.Line = (has_below q.index folder ≡ false) × q.may_nest folder true × (leads ≡ false)
-IsWay q folder leads ways.Nothing = (has_below q.index folder ≡ false) × q.may_nest folder true × (leads ≡ true)
+-- How a folder of this path is entered, which is ignored or not, and below which a path is selected by itself or not.
+abbrev pub IsWay : Question → List ℕ → Bool → Bool → Way → Type 0
+IsWay q folder excluded leads ways.Each = (has_below q.index folder ≡ true) ⊎ ((has_below q.index folder ≡ false) × q.may_nest folder false × ((q.all || (leads && not excluded)) ≡ true))
+IsWay q folder excluded leads ways.Whole = (has_below q.index folder ≡ false) × q.may_nest folder false × ((q.all || (leads && not excluded)) ≡ false)
+IsWay q folder excluded leads ways.Line = (has_below q.index folder ≡ false) × q.may_nest folder true × (leads ≡ false)
+IsWay q folder excluded leads ways.Nothing = (has_below q.index folder ≡ false) × q.may_nest folder true × (leads ≡ true)
 
 -- These lines were added to others.
 abbrev pub IsAdded : (Lines → Type 0) → Lines → Lines → Type 0

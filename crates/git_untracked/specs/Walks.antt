@@ -55,17 +55,17 @@ mutual
 
   -- The lines of a folder that is ignored or not, below which a path is selected by itself or not, and at whose path is an entry or not. With
   -- entries below it, it has no line itself. Another repository's is one line. Otherwise the lines of what is in it are its lines, or it stands
-  -- for them: if none of them is of an ignored node, or all are, the first one is enough.
+  -- for them, as an ignored one does even if a path below is selected: if none of them is of an ignored node, or all are, the first one is enough.
   pub data IsSubfolder (q : Question) : List Rule → Bool → Bool → Bool → List ℕ → Lines → Type 0 where
     with_entries : (rules : List Rule) (excluded leads tracked : Bool) (folder : List ℕ) (lines : Lines) → has_below q.index folder ≡ true
         → IsFolder q folder (record { rules = rules; excluded = excluded; one = false }) lines → IsSubfolder q rules excluded leads tracked folder lines
     repository : (rules : List Rule) (excluded leads tracked : Bool) (folder : List ℕ) → has_below q.index folder ≡ false → q.may_nest folder true
         → IsSubfolder q rules excluded leads tracked folder (if leads then no_lines else own_line tracked folder excluded)
     each : (rules : List Rule) (excluded leads tracked : Bool) (folder : List ℕ) (lines : Lines) → has_below q.index folder ≡ false → q.may_nest folder false
-        → (q.all || leads) ≡ true → IsFolder q folder (record { rules = rules; excluded = excluded; one = false }) lines
+        → (q.all || (leads && not excluded)) ≡ true → IsFolder q folder (record { rules = rules; excluded = excluded; one = false }) lines
         → IsSubfolder q rules excluded leads tracked folder lines
     whole : (rules : List Rule) (excluded leads tracked : Bool) (folder : List ℕ) (lines : Lines) → has_below q.index folder ≡ false → q.may_nest folder false
-        → (q.all || leads) ≡ false → IsFolder q folder (record { rules = rules; excluded = excluded; one = excluded || not q.ignored }) lines
+        → (q.all || (leads && not excluded)) ≡ false → IsFolder q folder (record { rules = rules; excluded = excluded; one = excluded || not q.ignored }) lines
         → IsSubfolder q rules excluded leads tracked folder (collapsed (own_line tracked folder) lines)
 
 -- The lines of a worktree, with the rules of files that aren't in it: each once, in order.

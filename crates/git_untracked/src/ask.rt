@@ -86,11 +86,11 @@ pub trait Ask {
     fn wants_ignored(&self) -> bool
         ensures { result ≡ (question self.now).ignored };
 
-    /// Returns how a folder is entered. `leads` is whether a path below it is selected by itself.
+    /// Returns how a folder is entered, which is ignored or not. `leads` is whether a path below it is selected by itself.
     ///
     /// # Errors
     /// The system refuses to say whether it is another repository's, or out of memory.
-    fn way_into(&self, folder: &[u8], leads: bool) -> Result<Way, FolderFault>
+    fn way_into(&self, folder: &[u8], is_excluded: bool, leads: bool) -> Result<Way, FolderFault>
         requires { 0 < length folder.now }
-        ensures { IfOk result (IsWay (question self.now) folder.now leads) };
+        ensures { IfOk result (IsWay (question self.now) folder.now is_excluded leads) };
 }

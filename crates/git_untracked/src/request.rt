@@ -123,14 +123,14 @@ impl<F: Folders, P: Selection> Ask for Request<'_, F, P> {
         self.ignored
     }
 
-    fn way_into(&self, folder: &[u8], leads: bool) -> Result<Way, FolderFault> {
+    fn way_into(&self, folder: &[u8], is_excluded: bool, leads: bool) -> Result<Way, FolderFault> {
         if has_below(self.index, folder) {
             return Ok(Way::Each);
         }
         match self.folders.is_repository(BStr::new(folder)) {
             Ok(true) if leads => Ok(Way::Nothing),
             Ok(true) => Ok(Way::Line),
-            Ok(false) if self.all || leads => Ok(Way::Each),
+            Ok(false) if self.all || (leads && !is_excluded) => Ok(Way::Each),
             Ok(false) => Ok(Way::Whole),
             Err(fault) => Err(FolderFault::at(self.alloc, folder, fault)),
         }

@@ -10,7 +10,8 @@ pub trait Selection {
     /// Whether a path is selected. The last argument is whether it is a folder's.
     ghost selects: { Self → List ℕ → Bool → Bool };
 
-    /// Whether a path below a folder is selected by itself, and not since the folder is.
+    /// Whether a path below a folder is selected by itself, and not since the folder is. As in git, none is if exactly the folder's
+    /// path, with a slash, is selected too.
     ghost leads: { Self → List ℕ → Bool };
 
     /// Returns whether a path is selected.

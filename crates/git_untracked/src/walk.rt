@@ -196,7 +196,7 @@ fn walk_subfolder<Q: Ask>(
         is_excluded,
         is_one_enough: false,
     };
-    match ask.way_into(path, leads)? {
+    match ask.way_into(path, is_excluded, leads)? {
         Way::Nothing => Ok(()),
         Way::Line => Ok(lines.add_folder(ask.alloc(), has_entry, path, is_excluded)?),
         Way::Each => walk_folder(ask, depth, each, path, rules, lines),
