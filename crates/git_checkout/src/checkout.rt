@@ -11,7 +11,7 @@ use crate::objects::{LazyObjects, modules_of};
 use crate::refresh::Refresh;
 use crate::refused::{Illformed, Refused};
 use crate::request::{Columns, Request, Selected, UntrackedFiles, selected_by};
-use crate::selection::{Exceptions, check_each, tops_of, untracked_of};
+use crate::selection::{Exceptions, check_each, own_tops_of, tops_of, untracked_of};
 use crate::sparse::whole_index;
 use crate::staged::run_staged;
 use git_attributes::{AttributeFiles, WithStaged};
@@ -22,7 +22,7 @@ use git_repository::{
 };
 use git_status::lines::LineStyle;
 use git_status::{
-    Asked, Failure, FindBeside, Paths, ReadIndex, Refreshed, Searches, Settings, Top, Tops,
+    Asked, Failure, FindBeside, Paths, ReadIndex, Refreshed, Searches, Settings, Tops,
     print_failure, run_dirty, run_refresh,
 };
 use git_untracked::Untracked;
@@ -227,7 +227,16 @@ where
         top: front,
     };
     let outer = outer_files_for(rt, request, repository)?;
-    let untracked = untracked_for(request, &folders, &tops, &outer);
+    let own_tops = own_tops_of(alloc, selected)?;
+    let untracked = untracked_for(
+        request,
+        &folders,
+        Tops {
+            are_all: tops.is_empty(),
+            tops: &own_tops,
+        },
+        &outer,
+    );
     let beside = Searches {
         head: &head,
         untracked: &untracked,
@@ -376,7 +385,7 @@ fn outer_files_for<R: AllocGlobal + Env + Files>(
 fn untracked_for<'a, F>(
     request: &Request<'_>,
     folders: &'a F,
-    tops: &'a [Top<'a>],
+    paths: Tops<'a>,
     outer: &'a [Vec<u8>],
 ) -> Option<Untracked<'a, F, Tops<'a>>> {
     if request.untracked == UntrackedFiles::No {
@@ -384,7 +393,7 @@ fn untracked_for<'a, F>(
     }
     Some(Untracked {
         folders,
-        paths: Tops { tops },
+        paths,
         outer,
         all: request.untracked == UntrackedFiles::All,
         ignored: request.ignored,

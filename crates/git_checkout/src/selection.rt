@@ -41,15 +41,28 @@ pub(crate) fn tops_of<'a>(
     alloc: Global,
     selected: &'a [Selected<'_>],
 ) -> Result<Vec<Top<'a>>, AllocError> {
-    let mut tops = Vec::new(alloc);
     if selected.iter().any(|one| one.path.is_empty()) {
-        return Ok(tops);
+        return Ok(Vec::new(alloc));
     }
+    own_tops_of(alloc, selected)
+}
+
+/// Returns the paths that are selected by themselves. The worktree's top is none.
+///
+/// # Errors
+/// Out of memory.
+pub(crate) fn own_tops_of<'a>(
+    alloc: Global,
+    selected: &'a [Selected<'_>],
+) -> Result<Vec<Top<'a>>, AllocError> {
+    let mut tops = Vec::new(alloc);
     for one in selected {
-        tops.push(Top {
-            path: one.path.as_bytes(),
-            is_folder: one.is_folder,
-        })?;
+        if !one.path.is_empty() {
+            tops.push(Top {
+                path: one.path.as_bytes(),
+                is_folder: one.is_folder,
+            })?;
+        }
     }
     Ok(tops)
 }

@@ -55,23 +55,26 @@ impl Pathspec for Paths<'_> {
     }
 }
 
-/// A selection of the nodes that an index doesn't have: files, and folders with all that is below them. An empty list selects
-/// every path.
+/// A selection of the nodes that an index doesn't have: files, and folders with all that is below them.
 #[derive(Clone, Copy)]
 pub struct Tops<'a> {
-    /// The paths that are selected.
+    /// Whether every path is selected.
+    pub are_all: bool,
+    /// The paths that are selected by themselves.
     pub tops: &'a [Top<'a>],
 }
 
 impl Selection for Tops<'_> {
-    ghost use Rattle.git_status.specs.Paths.{is_selected, leads};
+    ghost use Rattle.std.specs.Prelude.{◌||◌};
+    ghost use Rattle.std.specs.List.{list_any};
+    ghost use Rattle.git_status.specs.Paths.{is_within, leads};
 
-    ghost selects = { λ p path is_folder. is_selected p.tops.now path is_folder };
+    ghost selects = { λ p path is_folder. p.are_all || list_any (is_within path is_folder) p.tops.now };
 
     ghost leads = { λ p path. leads p.tops.now path };
 
     fn selects(&self, path: BStr<'_>, is_folder: bool) -> bool {
-        self.tops.is_empty() || is_within_any(path.as_bytes(), is_folder, self.tops)
+        self.are_all || is_within_any(path.as_bytes(), is_folder, self.tops)
     }
 
     fn leads(&self, folder: BStr<'_>) -> bool {
