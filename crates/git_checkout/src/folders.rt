@@ -20,7 +20,7 @@ use std::rt::{Env, Files};
 const NAME: &[u8] = b".gitignore";
 
 /// How many bytes of names are read at once.
-const PART: usize = 32 << 10;
+const PART: usize = 4096;
 
 /// The folders of a worktree.
 #[derive(Drop)]
@@ -45,8 +45,8 @@ where
             Err(error) => return none_if_missing(fault_of(error.kind())),
         };
         let mut names = Vec::new(self.rt.alloc());
-        let mut part = Vec::new(self.rt.alloc());
-        part.resize(PART, 0)?;
+        // Each part has whole names, for which there has to be room.
+        let mut part = [0u8; PART];
         for _ in 0..u64::MAX {
             match listing.read(&mut part) {
                 Ok(0) => return Ok(Some(names)),
