@@ -8,8 +8,10 @@ ghost use Rattle.git_status.specs.Besides.{beside_view, is_anything, other_row, 
 ghost use Rattle.git_status.specs.Lines.{row_lines};
 ghost use Rattle.git_status.specs.Runs.{IsHeadUnread, IsUnfound, IsUntrackedUnread};
 
+use crate::columns::push_own;
 use crate::failure::Failure;
-use crate::lines::{LineStyle, end_line};
+use crate::lines::LineStyle;
+use bstr::BStr;
 use git_staged::{FindStaged, Staged};
 use git_untracked::{FindUntracked, Lines};
 use status_index::State;
@@ -68,28 +70,59 @@ impl<H: FindStaged + Sync, U: FindUntracked + Sync> FindBeside for Searches<'_, 
         index: &State,
         alone: bool,
     ) -> Result<Beside, Failure> {
-        let (alloc, head, untracked) = (rt.alloc(), self.head, self.untracked);
         if alone {
-            let staged = staged_by(alloc, head, index)?;
-            let others = others_by(alloc, untracked, index)?;
-            return Ok(Beside { staged, others });
+            return find_alone(rt.alloc(), self.head, self.untracked, index);
         }
-        let (staged, others) = join(
-            rt,
-            move || -> Result<Vec<Staged>, Failure>
-                ensures found { IfOk result (λ found. H.may_stage head.entry.now (index_of index.entry.now) (map staged_view found.items)) }
-                ensures unfound { IfErr result IsUnfound }
-            { staged_by(alloc, head, index) },
-            move || -> Result<Lines, Failure>
-                ensures found { IfOk result (λ lines. U.may_find untracked.entry.now (index_of index.entry.now) (lines_view lines)) }
-                ensures unfound { IfErr result IsUnfound }
-            { others_by(alloc, untracked, index) },
-        );
-        Ok(Beside {
-            staged: staged?,
-            others: others?,
-        })
+        find_both(rt, self.head, self.untracked, index)
     }
+}
+
+/// Finds the staged changes, and then the nodes that the index doesn't have.
+///
+/// # Errors
+/// The commit's files or a folder of the worktree can't be read, or out of memory.
+fn find_alone<H: FindStaged, U: FindUntracked>(
+    alloc: Global,
+    head: &H,
+    untracked: &U,
+    index: &State,
+) -> Result<Beside, Failure>
+    ensures found { IfOk result (λ found. H.may_stage head.now (index_of index.now) (beside_view found).staged × U.may_find untracked.now (index_of index.now) (beside_view found).others) }
+    ensures unfound { IfErr result IsUnfound }
+{
+    let staged = staged_by(alloc, head, index)?;
+    let others = others_by(alloc, untracked, index)?;
+    Ok(Beside { staged, others })
+}
+
+/// Finds the staged changes, and next to them, in another thread, the nodes that the index doesn't have.
+///
+/// # Errors
+/// The commit's files or a folder of the worktree can't be read, or out of memory.
+fn find_both<R: AllocGlobal + Threads + Wait, H: FindStaged + Sync, U: FindUntracked + Sync>(
+    rt: &R,
+    head: &H,
+    untracked: &U,
+    index: &State,
+) -> Result<Beside, Failure>
+    ensures found { IfOk result (λ found. H.may_stage head.now (index_of index.now) (beside_view found).staged × U.may_find untracked.now (index_of index.now) (beside_view found).others) }
+    ensures unfound { IfErr result IsUnfound }
+{
+    let alloc = rt.alloc();
+    let (staged, others) = join(
+        rt,
+        move || -> Result<Vec<Staged>, Failure>
+            ensures found { IfOk result (λ found. H.may_stage head.entry.now (index_of index.entry.now) (map staged_view found.items)) }
+            ensures unfound { IfErr result IsUnfound }
+        { staged_by(alloc, head, index) },
+        move || -> Result<Lines, Failure>
+            ensures found { IfOk result (λ lines. U.may_find untracked.entry.now (index_of index.entry.now) (lines_view lines)) }
+            ensures unfound { IfErr result IsUnfound }
+        { others_by(alloc, untracked, index) },
+    );
+    let staged = staged?;
+    let others = others?;
+    Ok(Beside { staged, others })
 }
 
 /// Returns the staged changes of an index.
@@ -137,6 +170,7 @@ impl Beside {
 ///
 /// # Errors
 /// Out of memory.
+#[tactic(auto, using(crate::proofs::Besides::lines_more))]
 pub(crate) fn push_others(
     lines: &mut Vec<u8>,
     style: LineStyle,
@@ -158,9 +192,7 @@ fn push_paths(
     ensures { OnOk result (lines.new.items ≡ lines.old.items ++ row_lines style (map (other_row letters.now) (paths_of paths.now))) }
 {
     for path in paths {
-        lines.extend_from_slice(letters.as_bytes())?;
-        lines.push(b' ')?;
-        end_line(lines, style, path)?;
+        push_own(lines, style, BStr::new(path), letters)?;
     }
     Ok(())
 }
