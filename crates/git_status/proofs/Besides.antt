@@ -1,5 +1,5 @@
 -- What is found beside a status, and its lines.
-use Rattle.std.proofs.Common.{◌≡◌, ◌∙◌, ◌++◌, ℕ, List, [], ◌∷◌, length, map, inl, inr, refl, sym, ap}
+use Rattle.std.proofs.Common.{◌≡◌, ◌∙◌, ◌++◌, List, [], ◌∷◌, inl, inr, refl, sym, ap}
 use Rattle.std.proofs.lemmas.List.{append_assoc}
 use Rattle.git_staged.specs.declared.error.TreeFault.{TreeFault}
 use Rattle.git_staged.specs.declared.error.TreeFault.TheVariants as trees

@@ -15,7 +15,6 @@ use Rattle.status_call.specs.declared.index_as_worktree.types.Finding.{Finding}
 use Rattle.status_call.specs.declared.index_as_worktree.types.Outcome.{Outcome}
 use Rattle.status_compare.specs.declared.error.Error.{Error}
 use Rattle.status_index.specs.Entries.{IndexEntry}
-use Rattle.status_index.specs.States.{index_of}
 use Rattle.status_index.specs.declared.state.State.{State}
 use Rattle.git_status.specs.Besides.{Beside, MayFind, is_anything}
 use Rattle.std.proofs.Math.Logic.{∥∥₁_map}

@@ -1,5 +1,5 @@
 -- How the parts of a run make the whole.
-use Rattle.std.proofs.Common.{◌≡◌, ℕ, true, false, List, [], Option, None, Some, Result, Ok, Err, IfOk, IfSome, Bool, false, inl, inr, refl, subst}
+use Rattle.std.proofs.Common.{◌≡◌, ℕ, true, false, List, [], Option, None, Some, Result, Ok, Err, IfSome, Bool, false, inl, inr, refl}
 use Rattle.std.specs.Prelude.{is_some}
 use Rattle.std.proofs.Math.Logic.{∥∥₁_map}
 use Rattle.status_call.proofs.StatusProof.{met_along, unspawned_along}
@@ -9,10 +9,7 @@ use Rattle.std.specs.Result.{IsErrAnd}
 use Rattle.status_call.specs.Inputs.{settings}
 use Rattle.status_call.specs.MayReturn.{MayReturn}
 use Rattle.status_call.specs.Query.{Query}
-use Rattle.status_call.specs.StatusOf.{OneThreadSpawnsNone}
 use Rattle.status_call.specs.EntrySights.{IsViewAllowed}
-use Rattle.status_call.specs.StatusSeen.{IsStatusSeen}
-use Rattle.status_call.specs.StatusTheorem.{IsStatusReport}
 use Rattle.status_call.specs.Visits.{Visit}
 use Rattle.status_call.specs.declared.index_as_worktree.types.Outcome.{Outcome}
 use Rattle.status_compare.specs.declared.error.Error.{Error}
@@ -23,7 +20,6 @@ use Rattle.git_status.specs.Runs.{Asking, IsComputed, IsComputedBy, IsCommandEnd
 use Rattle.git_status.specs.declared.asked.Settings.{Settings}
 use Rattle.git_status.specs.declared.answer.Report.{Report}
 use Rattle.git_status.specs.declared.failure.Failure.{Failure}
-use Rattle.git_status.specs.declared.failure.Failure.TheVariants.{Memory}
 
 module _ {T U : Type 0} where
   -- a status that was computed by an equal query, and by no more than what may be seen

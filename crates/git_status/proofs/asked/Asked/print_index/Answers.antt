@@ -1,4 +1,4 @@
-use Rattle.std.proofs.Common.{rules, ◌≡◌, false, sym, true, ◌∙◌, ◌&&◌, ◌==◌, not, ap, map, refl}
+use Rattle.std.proofs.Common.{rules, ◌≡◌, false, sym, true, ◌∙◌, ◌&&◌, ◌==◌, not, ap, map}
 use Rattle.std.proofs.lemmas.Bool.{false≢true}
 use Rattle.git_attributes.specs.Views.{attributes_view, file_view}
 use Rattle.status_call.specs.Counts.{skipped_of}
