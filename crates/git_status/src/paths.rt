@@ -88,8 +88,7 @@ impl Selection for Tops<'_> {
 fn is_above(folder: &[u8], top: &Top<'_>) -> bool
     ensures { result ≡ is_above folder.now top.now }
 {
-    let path = top.path;
-    path.starts_with(folder) && path.len() > folder.len() && path[folder.len()] == b'/'
+    top.path.starts_with(folder) && is_component_end(false, &top.path[folder.len()..])
 }
 
 /// Whether exactly a folder is selected, with a slash.
