@@ -27,8 +27,8 @@ IGNORED = "--ignored=traditional"
 class UntrackedComparer(Comparer):
     """Runs git and the program over one drawn repository with untracked files."""
 
-    WARNINGS = rb"(warning: unable to access '[^\n]*\.gitignore': Too many levels of symbolic links\n"
-    WARNINGS += rb"|warning: could not open directory '[^\n]*': (No such file or|Not a) directory\n)*"
+    WARNINGS = rb"(?s:(warning: unable to access '.*?\.gitignore': Too many levels of symbolic links\n"
+    WARNINGS += rb"|warning: could not open directory '.*?': (No such file or|Not a) directory\n)*)"
     COUNTED = ("-uall", IGNORED)
 
     def forms(self):

@@ -159,8 +159,8 @@ class UntrackedDrawing(Drawing):
 
     def stage_rules(self, path, place):
         """Stages a file of rules, and perhaps removes it."""
-        with open(place, "rb") as file:
-            self.put_entries([("100644", self.put_object(file.read()), 0, path)])
+        name = self.git("hash-object", "-w", "--no-filters", place).decode().strip()
+        self.put_entries([("100644", name, 0, path)])
         how = self.random.choice(["staged", "skipped", "gone"])
         self.note("rules", how)
         self.kinds.add(f"rules: {how}")
