@@ -17,6 +17,9 @@ from support.repositories import make_git_folder, write
 # How many names a folder has, and how many folders are within each other: with two bytes for each, git can't call for a path in
 # the last ones, which has more than 4,095.
 NAMES, DEEP, LESS_DEEP = 100_000, 2100, 1900
+# The paths that change in a run, and how.
+CHANGING = ["n", "m", "d/n", "n/o", "n/o/p", "n/.gitignore", "u"]
+CHANGES = ["file", "file", "folder", "folder", "link", "repository", "move", "move", "file away", "all away"]
 FORMS = (["-u"], ["-uall"], ["-u", "--ignored"], ["-uall", "--ignored"])
 # What a run prints to standard error that ends with status 2, and otherwise.
 FAULT, NOTES = rb"\A(git dirty: note: [^\n]*\n)*git dirty: [^\n]+\n\Z", rb"\A(git dirty: note: [^\n]*\n)*\Z"
@@ -127,8 +130,8 @@ class Untracked(Dirty):
         """Makes, moves and removes files and folders until `ended` is set."""
         draws = random.Random(0)
         while not ended.is_set():
-            one, other = (self.path(draws.choice(["n", "m", "d/n", "n/o", "n/o/p", "n/.gitignore", "u"])) for _ in range(2))
-            change = draws.choice(["file", "file", "folder", "folder", "link", "repository", "move", "move", "file away", "all away"])
+            one, other = (self.path(draws.choice(CHANGING)) for _ in range(2))
+            change = draws.choice(CHANGES)
             try:
                 if change == "file":
                     write(one, "u\n")

@@ -13,14 +13,15 @@ from support.repositories import SETTINGS, id_of, make_git_folder, put_socket, w
 OTHER_FOLDERS = ["n/", "n/", "n/o/", "n/o/p/", "b c/", "b/", "b/b/", "x/y/w/"]
 OTHER_NAMES = ["u.o", "u.c", "b", "c.o", "a.o"]
 RAW_NAMES = ["\udcff", "b\udcfe.o"]
-# Kinds of what is put there, as often as they are drawn, and forms of a nested repository. Only the first two are one.
+# Kinds of nodes, as often as they are drawn, and forms of a `.git`. Only the first two make a nested repository.
 KINDS = ["file"] * 12 + ["link"] * 2 + ["pipe", "socket"] + ["empty folder"] * 2 + ["repository"] * 2
 REPOSITORIES = ["folder", "file", "lost file", "empty", "text"]
-# Parts of patterns, and where the user's rules are.
+# Parts of patterns, and the ways in which git finds the user's rules.
 ATOMS = ["a", "b", "n", "*", "**", "?", "/", "/", "[ab]", "[!a]", "a*", "*.o", "\\a", "\\*", "b/", "/n", "**/", "/**", "u.?", "p", "o"]
 USER_FILES = ["absolute", "in HOME", "XDG_CONFIG_HOME", "HOME", "not there", "none", "none"]
 # What has to come.
-EACH = {*KINDS, *USER_FILES, *(f"repository: {form}" for form in REPOSITORIES), "not UTF-8", "module in conflict", "repository of tracked files"}
+EACH = {*KINDS, *USER_FILES, "not UTF-8", "module in conflict", "repository of tracked files"}
+EACH |= {f"repository: {form}" for form in REPOSITORIES}
 EACH |= {f"rules: {how}" for how in ("file", "link", "folder", "staged", "skipped", "gone")}
 
 
@@ -38,8 +39,8 @@ class UntrackedDrawing(Drawing):
 
     def is_free(self, path):
         """Returns whether nothing is at a path, and folders alone are above it."""
-        above = [path[:at] for at, letter in enumerate(path) if letter == "/"]
-        is_reached = all(os.path.isdir(self.path(it)) and not os.path.islink(self.path(it)) for it in above if os.path.lexists(self.path(it)))
+        above = [self.path(path[:at]) for at, letter in enumerate(path) if letter == "/"]
+        is_reached = all(os.path.isdir(it) and not os.path.islink(it) for it in above if os.path.lexists(it))
         return is_reached and not os.path.lexists(self.path(path))
 
     def put_node(self):
@@ -186,6 +187,7 @@ class UntrackedDrawing(Drawing):
         return [path for path in drawn if not self.is_doubtful(os.path.normpath(os.path.join(folder, path)))]
 
     def is_doubtful(self, path):
-        """Returns whether git lists an ignored repository that isn't at a path or below it: its own path begins with this one, or
-        the other way round."""
-        return any((f"{it}/".startswith(path) or path.startswith(it)) and not f"{it}/".startswith(f"{path}/") for it in self.repositories)
+        """Returns whether git may list a repository that isn't at a path or below it, if that is ignored: its own path begins with
+        this one, or the other way round."""
+        near = [it for it in self.repositories if it.startswith(path) or path.startswith(it)]
+        return any(not f"{it}/".startswith(f"{path}/") for it in near)
