@@ -1,4 +1,4 @@
--- What a walk for untracked files is told of a node on disk.
+-- The types that a node on disk may have for a walk for untracked files.
 use Rattle.std.specs.Prelude.{◌≡◌, ◌⊎◌, Option, Some, None, Result, Ok, Err}
 use Rattle.status_index.specs.declared.fault.Fault.{Fault}
 use Rattle.status_index.specs.declared.fault.Fault.TheVariants.{IllformedUtf8, NotADirectory, NotFound}

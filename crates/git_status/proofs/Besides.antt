@@ -1,4 +1,4 @@
--- What is found beside a status, and its lines.
+-- The findings next to a status, and their lines.
 use Rattle.std.proofs.Common.{◌≡◌, ◌∙◌, ◌++◌, List, [], ◌∷◌, inl, inr, refl, sym, ap}
 use Rattle.std.proofs.lemmas.List.{append_assoc}
 use Rattle.git_staged.specs.declared.error.TreeFault.{TreeFault}

@@ -100,7 +100,7 @@ module _ {T U : Type 0} where
   unfolding IsIndexFound
   unfound_index wanted a bytes index known result failed = inr (memory_early a.settings.kind bytes result failed, refl)
 
-  -- what is beside the status can't be found
+  -- the findings next to the status can't be made
   pub sightless_index : (wanted : Bool) (a : Asking T U) (bytes : List ℕ) (index : State) (known : Option (List ℕ)) (f : Failure) (result : Result Found Failure)
       → IsUnfound f → IsErrAnd result (λ e. e ≡ f) → IsIndexFound wanted a bytes index known result known
   unfolding IsIndexFound

@@ -1,4 +1,4 @@
--- What is found beside a status: staged changes, and the nodes of the worktree that the index doesn't have.
+-- The findings next to a status: staged changes, and the nodes of the worktree that the index doesn't have.
 use Rattle.std.specs.Prelude.{◌==◌, ◌||◌, not, ℕ, Bool, List, ◌++◌, codes, length, map}
 use Rattle.git_staged.specs.Staged.{MayStage, staged_view}
 use Rattle.git_staged.specs.declared.letters.Letter.{Letter}

@@ -36,7 +36,7 @@ module _ {T U : Type 0} where
   abbrev pub PrintsBoth : LineStyle → Beside → Query T U → State → Option (List ℕ) → Option (List ℕ) → Type 0
   PrintsBoth style beside q index old new = Appends old new (beside_text style beside (difference_rows q index))
 
-  -- The bytes are an index file, and such lines were printed of what was found beside its status.
+  -- The bytes are an index file, and such lines were printed of the findings next to its status.
   abbrev pub PrintsDifferences : Asking T U → LineStyle → List ℕ → Option (List ℕ) → Option (List ℕ) → Type 0
   PrintsDifferences a style bytes old new =
       (read : ReadFile a bytes) × (beside : Beside) × a.may_find (index_of read.index) beside × PrintsBoth style beside (a.query read.converting.filter (settings a.settings.options read.index)) read.index old new

@@ -42,7 +42,7 @@ use Rattle.git_status.specs.declared.failure.Failure.{Failure}
 use Rattle.git_status.specs.declared.failure.Failure.TheVariants.{Attributes, Head, Index, Interrupted, Memory, Untracked}
 
 -- How a worktree is compared with an index after line ends are converted, which attribute files may be found for an index, what
--- may be found beside its status, and the settings.
+-- may be found next to its status, and the settings.
 pub record Asking (T U : Type 0) : Type 1 where
   pub query : LineEnds → StatusSettings → Query T U
   pub are_files : State → List File → Type 0
@@ -152,7 +152,7 @@ module _ {T U : Type 0} where
     pub whole : interruptible ≡ false → IfOk answer (λ o. o.interrupted ≡ false)
     pub alone : OneThreadSpawnsNone query limit answer
 
-  -- A status of this index was computed, and the command ended so, with what was found beside it.
+  -- A status of this index was computed, and the command ended so, with the findings next to it.
   pub record IsStatusRun (may_find : MayFind) (query : Query T U) (may : MayReturn U) (index : State) (s : Settings) (old : Option (List ℕ)) (result : Result Report Failure) (new : Option (List ℕ)) : Type 0 where
     pub beside : Beside
     pub found : may_find (index_of index) beside
@@ -193,7 +193,7 @@ module _ {T U : Type 0} where
   abbrev pub IsNothingBeside : Asking T U → State → Type 0
   IsNothingBeside a index = (beside : Beside) × a.may_find (index_of index) beside × (is_anything beside ≡ false)
 
-  -- An index was read beside whose status nothing was found, and of which no considered entry differs from the worktree.
+  -- An index was read next to whose status nothing was found, and of which no considered entry differs from the worktree.
   abbrev pub IsClean : Asking T U → List ℕ → Type 0
   IsClean a bytes = (read : ReadFile a bytes) × IsNothingBeside a read.index × NoneDiffers (a.query read.converting.filter (settings a.settings.options read.index)) read.index
 
@@ -206,7 +206,7 @@ module _ {T U : Type 0} where
   abbrev pub seen_query : (a : Asking T U) (index : State) (filter : LineEnds) → SeenBy a index filter → Query T U
   seen_query a index filter seen = as_seen (a.query filter (settings a.settings.options index)) seen.views
 
-  -- An index was read beside whose status nothing was found, and of which no considered entry differs, by what was seen of each.
+  -- An index was read next to whose status nothing was found, and of which no considered entry differs, by what was seen of each.
   abbrev pub IsSeenClean : Asking T U → List ℕ → Type 0
   IsSeenClean a bytes = (read : ReadFile a bytes) × IsNothingBeside a read.index × ∥ ((seen : SeenBy a read.index read.converting.filter) × NoneDiffers (seen_query a read.index read.converting.filter seen) read.index) ∥₁
 

@@ -31,7 +31,7 @@ pub struct Report {
     pub unconverted: Option<Vec<BString>>,
 }
 
-/// Prints the lines of a status's records and of what was found beside them, and returns what was found.
+/// Prints the lines of a status's records and of the findings next to them, and returns what was found.
 ///
 /// # Errors
 /// The output can't be written, or memory ran out; or those of `report_of`, after all lines were printed.

@@ -50,7 +50,7 @@ pub struct Asked<'a, W, S, P, A, B> {
     pub paths: P,
     /// The attribute files that aren't in the worktree, which say how git converts files too.
     pub attributes: A,
-    /// Finds what is beside the status: staged changes and untracked nodes.
+    /// Finds staged changes and untracked nodes, next to the status.
     pub beside: &'a B,
 }
 
@@ -59,7 +59,7 @@ pub trait Question {
     /// A submodule's report of a change.
     type Submodule;
 
-    /// How the worktree is compared after line ends are converted, which attribute files may be found, what may be found beside
+    /// How the worktree is compared after line ends are converted, which attribute files may be found, what may be found next to
     /// the status, and the settings.
     ghost asking: { Self → Asking (Unit {0}) Self.Submodule };
 }

@@ -1,4 +1,4 @@
-//! What is found beside a status: staged changes, and the nodes of the worktree that the index doesn't have.
+//! The findings next to a status: staged changes, and the nodes of the worktree that the index doesn't have.
 
 ghost use Rattle.std.specs.Prelude.{◌≡◌, ◌++◌, IfErr, IfOk, OnOk, map};
 ghost use Rattle.status_index.specs.States.{index_of};
@@ -19,7 +19,7 @@ use std::alloc::{AllocError, Global};
 use std::sync::Wait;
 use std::thread::{Threads, join};
 
-/// What is found beside a status.
+/// The findings next to a status.
 #[derive(Debug, Drop)]
 pub struct Beside {
     /// The staged changes, in the order of paths.
@@ -28,7 +28,7 @@ pub struct Beside {
     pub others: Lines,
 }
 
-/// Finds the parts of what is beside a status. Each part may be found in a thread of its own.
+/// Finds staged changes and untracked nodes, next to a status. Each part may be found in a thread of its own.
 pub trait FindBeside {
     ghost use Rattle.std.specs.Prelude.{IfErr, IfOk, map};
     ghost use Rattle.status_index.specs.States.{index_of};
@@ -89,7 +89,7 @@ impl<H: FindStaged, U: FindUntracked> FindBeside for Searches<'_, H, U> {
     }
 }
 
-/// Returns what is beside the status of an index. `alone` is whether no thread may be started.
+/// Returns the findings next to the status of an index. `alone` is whether no thread may be started.
 ///
 /// # Errors
 /// The commit's files or a folder of the worktree can't be read, or out of memory.

@@ -176,7 +176,7 @@ where
     compute_checked(rt, asked.settings.kind, read, decider, &execution)
 }
 
-/// Finds what is beside the status of an index file that was read, next to computing it. With a thread limit of 1 it is found first.
+/// Finds staged changes and untracked nodes of an index file that was read, next to computing its status. With a thread limit of 1 it is found first.
 /// There is no status if the file's checksum is wrong.
 pub(crate) fn compute_both<
     'index,

@@ -1,4 +1,4 @@
--- The line of a folder in place of the lines for which it stands.
+-- The line of a folder in place of the lines that it replaces.
 use Rattle.std.proofs.Common.{◌≡◌, ◌∙◌, ℕ, ◌<◌, ◌≤◌, ◌+◌, Bool, true, false, List, [], ◌∷◌, ◌++◌, length, take, refl, sym, ap, append-nil, length-append, arith}
 use Rattle.std.proofs.Math.Seq.{take-append_seam}
 use Rattle.git_untracked.specs.Lines.{Lines, and_lines, collapsed, collapsed_from, line_of, no_lines, own_line}
@@ -9,7 +9,7 @@ both u i = record { untracked = u; ignored = i }
 pub both_same : (u v i j : List (List ℕ)) → u ≡ v → i ≡ j → both u i ≡ both v j
 both_same u v i j e f = ap (λ (x : List (List ℕ)). both x i) e ∙ ap (λ (y : List (List ℕ)). both v y) f
 
--- Something stands before the end of a list.
+-- A list is cut off after its front.
 cut_front : (front back : List (List ℕ)) (n : ℕ) → n ≡ length front → take n (front ++ back) ≡ front
 cut_front front back n e = ap (λ (k : ℕ). take k (front ++ back)) e ∙ take-append_seam front back
 

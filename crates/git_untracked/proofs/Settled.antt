@@ -16,7 +16,7 @@ pub stored_side : (b : PathStorage) (es : List Entry) → list_any is_side (inde
 stored_side b [] = refl
 stored_side b (e ∷ es) = ap (λ x. not (stage_of_bits e.flags.0 == 0) || x) (stored_side b es)
 
--- What a path's entries settle, by tests of the stored ones.
+-- Whether a path's entries settle it, by tests of the stored ones.
 pub settled_stored : (b : PathStorage) (wanted : Bool) (es : List Entry) → 1 ≤ length es
     → is_settled wanted (index_entries b es) ≡ (list_any (λ e. is_submodule e.mode) es || not (wanted || list_any (λ e. not (stage_of_bits e.flags.0 == 0)) es))
 settled_stored b wanted [] some = absurd (omega (arith, some))

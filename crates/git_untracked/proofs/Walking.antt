@@ -22,7 +22,7 @@ and_assoc a b c =
 pub added_none : (are : Lines → Type 0) (old new : Lines) → new ≡ old → are no_lines → IsAdded are old new
 added_none are old new same none = (no_lines, same ∙ sym (and_none old), none)
 
--- What was added is of a stronger kind.
+-- Lines that were added are of a weaker kind too.
 pub added_as : (are other : Lines → Type 0) (old new : Lines) → ((lines : Lines) → are lines → other lines) → IsAdded are old new → IsAdded other old new
 added_as are other old new h added = (added.0, added.1, h added.0 added.2)
 

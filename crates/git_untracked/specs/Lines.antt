@@ -34,7 +34,7 @@ collapsed_from line [] [] = no_lines
 collapsed_from line [] (path ∷ paths) = line true
 collapsed_from line (path ∷ paths) ignored = and_lines (line false) (record { untracked = []; ignored = ignored })
 
--- The line of a folder that stands for these lines. It is untracked if one of them is, and then those of ignored nodes stay.
+-- The line of a folder that replaces these lines. It is untracked if one of them is, and then those of ignored nodes stay.
 abbrev pub collapsed : (Bool → Lines) → Lines → Lines
 collapsed line lines = collapsed_from line lines.untracked lines.ignored
 

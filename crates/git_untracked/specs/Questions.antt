@@ -1,4 +1,4 @@
--- What a walk for untracked files is asked, and what it may be told about a worktree.
+-- The request of a walk for untracked files, and what a worktree may return to it.
 use Rattle.std.specs.Prelude.{◌≡◌, ◌⊎◌, ◌==◌, ◌&&◌, ◌||◌, not, ℕ, Bool, true, false, List, [], ◌∷◌, ◌++◌, filter, codes, Option, Some, None}
 use Rattle.std.specs.List.{list_any}
 use Rattle.std.specs.Str.{bytes_eq}
@@ -8,8 +8,8 @@ use Rattle.status_index.specs.Stretch.{is_at, is_under}
 use Rattle.status_index.specs.declared.stat.NodeKind.{NodeKind}
 use Rattle.git_ignore.specs.Rules.{Rule, rules_of}
 
--- The entries of an index, which lines are wanted, and which answers a worktree may give. A folder's path ends in a slash, but for that
--- of the worktree's top, which is empty.
+-- The entries of an index, which lines are wanted, and what a worktree may return. A folder's path ends in a slash, except that of the
+-- worktree's top, which is empty.
 pub record Question : Type 1 where
   pub index : List IndexEntry
   -- Whether each file of an untracked folder has a line, and not the folder.

@@ -1,4 +1,4 @@
--- What the parts of the code are in the words of a walk.
+-- The parts of the code in the words of a walk.
 use Rattle.std.specs.Prelude.{◌≡◌, ◌⊎◌, ◌&&◌, ◌||◌, not, Bool, true, false, List, ℕ}
 use Rattle.git_ignore.specs.Rules.{Rule}
 use Rattle.git_untracked.specs.Lines.{Lines, and_lines}

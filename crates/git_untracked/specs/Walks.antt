@@ -1,4 +1,4 @@
--- The lines of a worktree's nodes that an index doesn't have, as git has them, by what the worktree answers.
+-- The lines of a worktree's nodes that an index doesn't have, as git has them, by what the worktree returns.
 use Rattle.std.specs.Prelude.{◌≡◌, ◌⊎◌, ℕ, ◌&&◌, ◌||◌, not, Bool, true, false, List, [], ◌∷◌, ◌++◌, Option, Some, None, if◌then◌else◌}
 use Rattle.status_index.specs.declared.stat.NodeKind.{NodeKind}
 use Rattle.status_index.specs.declared.stat.NodeKind.TheVariants as kinds
@@ -54,8 +54,8 @@ mutual
         → IsSubfolder q w.rules (is_ignored w path true) (q.leads path) (is_tracked q.index path) (path ++ 47 ∷ []) lines → IsNode q w path lines
 
   -- The lines of a folder that is ignored or not, below which a path is selected by itself or not, and at whose path is an entry or not. With
-  -- entries below it, it has no line itself. Another repository's is one line. Otherwise the lines of what is in it are its lines, or it stands
-  -- for them, as an ignored one does even if a path below is selected: if none of them is of an ignored node, or all are, the first one is enough.
+  -- entries below it, it has no line itself. Another repository's is one line. Otherwise the lines of what is in it are its lines, or it replaces
+  -- them, as an ignored one does even if a path below is selected: if none of them is of an ignored node, or all are, the first one is enough.
   pub data IsSubfolder (q : Question) : List Rule → Bool → Bool → Bool → List ℕ → Lines → Type 0 where
     with_entries : (rules : List Rule) (excluded leads tracked : Bool) (folder : List ℕ) (lines : Lines) → has_below q.index folder ≡ true
         → IsFolder q folder (record { rules = rules; excluded = excluded; one = false }) lines → IsSubfolder q rules excluded leads tracked folder lines

@@ -17,11 +17,11 @@ pub enum Way {
     Line,
     /// The lines of what is in it are its lines.
     Each,
-    /// It stands for the lines of what is in it.
+    /// Its line replaces those of what is in it.
     Whole,
 }
 
-/// Answers the questions of a walk. A folder's path ends in a slash, but for that of the worktree's top, which is empty.
+/// Takes the questions of a walk. A folder's path ends in a slash, except that of the worktree's top, which is empty.
 pub trait Ask {
     ghost use Rattle.std.specs.Prelude.{◌≡◌, ◌&&◌, ◌||◌, ◌++◌, ◌<◌, not, IfOk, OnOk, List, ℕ, Option, length, option_map};
     ghost use Rattle.git_ignore.specs.Views.{rules_view};

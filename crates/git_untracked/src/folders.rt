@@ -13,16 +13,16 @@ pub trait Folders {
     ghost use Rattle.bstr.specs.BStr.{bstr_bytes};
     ghost use Rattle.status_index.specs.declared.stat.NodeKind.{NodeKind as NodeType};
 
-    /// Which names a folder may be said to have. None if there is no folder.
+    /// Which names may be returned of a folder. None if there is no folder.
     ghost may_list: { Self → List ℕ → Option (List (List ℕ)) → Type 0 } = { λ _ _ _. ⊤ };
 
-    /// Which type the node at a path may be said to have. None if nothing is there.
+    /// Which type may be returned of the node at a path. None if nothing is there.
     ghost may_be: { Self → List ℕ → Option NodeType → Type 0 } = { λ _ _ _. ⊤ };
 
-    /// Which bytes the ignore file of a folder may be said to have. None if it has none.
+    /// Which bytes may be returned of the ignore file of a folder. None if it has none.
     ghost may_ignore: { Self → List ℕ → Option (List ℕ) → Type 0 } = { λ _ _ _. ⊤ };
 
-    /// Whether a folder may be said to be the top of another repository.
+    /// Whether it may be returned that a folder is the top of another repository.
     ghost may_nest: { Self → List ℕ → Bool → Type 0 } = { λ _ _ _. ⊤ };
 
     /// Returns the names of the nodes in a folder, in any order. None if there is no folder.
@@ -63,7 +63,7 @@ pub trait Folders {
 /// Why untracked files can't be found.
 #[derive(Debug, Drop, Error)]
 pub enum FolderFault {
-    /// The system doesn't answer a question about a path.
+    /// The system refuses a question about a path.
     #[error("{fault}")]
     At {
         /// The path.

@@ -11,7 +11,7 @@ ghost use Rattle.git_untracked.specs.Lines.{AreInOrder, IsEnd, IsListOf, Lines a
 use std::alloc::{AllocError, Global};
 
 /// The nodes that an index doesn't have, by their paths from the worktree's top. The path of a folder ends in a slash: it is
-/// that of a nested repository, or stands for what is in it.
+/// that of a nested repository, or replaces those of what is in it.
 #[derive(Debug, Drop)]
 pub struct Lines {
     /// The untracked ones.
@@ -45,7 +45,7 @@ impl Lines {
         self.untracked.is_empty() && self.ignored.is_empty()
     }
 
-    /// Returns where the lines end.
+    /// Returns the end of the lines.
     pub(crate) fn end(&self) -> End
         ensures { IsEnd (lines_view self.now) result }
     {
@@ -102,7 +102,7 @@ impl Lines {
         self.add(alloc, is_ignored, folder)
     }
 
-    /// Puts the line of a folder in place of the lines after an end, for which it stands.
+    /// Puts the line of a folder in place of the lines after an end.
     ///
     /// # Errors
     /// Out of memory.

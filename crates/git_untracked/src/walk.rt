@@ -32,7 +32,7 @@ pub(crate) struct Within {
 /// ignore files above it.
 ///
 /// # Errors
-/// The system doesn't answer a question, folders are too deep, or out of memory. Then any path, rules and lines may be left.
+/// The system refuses a question, folders are too deep, or out of memory. Then any path, rules and lines may be left.
 #[cycle(walk)]
 pub(crate) fn walk_folder<Q: Ask>(
     ask: &Q,
@@ -239,7 +239,7 @@ fn leaves_out<Q: Ask>(ask: &Q, is_excluded: bool) -> bool
     is_excluded && !ask.wants_ignored()
 }
 
-/// Returns whether the first line is enough of a folder that stands for what is in it.
+/// Returns whether the first line is enough of a folder whose line replaces those of what is in it.
 fn is_one_enough<Q: Ask>(ask: &Q, is_excluded: bool) -> bool
     ensures { result ≡ (is_excluded || not (Q.question ask.now).ignored) }
 {
