@@ -225,7 +225,7 @@ where
     refresh.end(rt, compared)
 }
 
-/// Prints the status of an index that was read, over the selected paths but for these exceptions.
+/// Prints the status of an index that was read, over the selected paths, without these exceptions.
 ///
 /// # Errors
 /// A setting can't be read, or out of memory, before anything is compared.
