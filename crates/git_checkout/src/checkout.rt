@@ -22,10 +22,10 @@ use git_repository::{
 };
 use git_status::lines::LineStyle;
 use git_status::{
-    Asked, Failure, FindBeside, Paths, ReadIndex, Refreshed, Searches, Settings, Tops,
-    print_failure, run_dirty, run_refresh,
+    Asked, Failure, Paths, ReadIndex, Refreshed, Searches, Settings, Top, Tops, print_failure,
+    run_dirty, run_refresh,
 };
-use git_untracked::Untracked;
+use git_untracked::{FindUntracked, Untracked};
 use status_base::worktree::{DiskWorktree, Pathspec, StatFields, SubmoduleStatus, Worktree};
 use status_call::index_as_worktree::{Capabilities, Options};
 use status_index::{Moment, State, stat};
@@ -258,8 +258,9 @@ where
         worktree,
         ..
     } = found;
-    let nothing = State::new(alloc, Moment::default());
-    let (tops, own_tops) = (tops_of(alloc, selected)?, own_tops_of(alloc, selected)?);
+    let tops = tops_of(alloc, selected)?;
+    let staged_tops = tops_of(alloc, selected)?;
+    let own_tops = own_tops_of(alloc, selected)?;
     let outer = outer_files_for(rt, request, repository)?;
     let unknown = untracked_of(alloc, &read.file.state, selected)?;
     let objects = LazyObjects { rt, repository };
@@ -271,13 +272,6 @@ where
             objects: &objects,
         },
     };
-    let head = head_at(
-        found.head,
-        Paths {
-            tops: &tops,
-            left_out: &nothing,
-        },
-    );
     let folders = DiskFolders {
         rt,
         repository,
@@ -289,10 +283,6 @@ where
         tops: &own_tops,
     };
     let untracked = untracked_for(request, &folders, paths, &outer);
-    let beside = Searches {
-        head: &head,
-        untracked: &untracked,
-    };
     let asked = Asked {
         settings,
         worktree,
@@ -302,10 +292,12 @@ where
             left_out: &exceptions.left_out,
         },
         attributes,
-        beside: &beside,
+        beside: found.head,
     };
     let nested = Nested {
         top: repository.top.as_str(),
+        tops: &staged_tops,
+        untracked: &untracked,
         intended: &exceptions.intended,
         wanted: Wanted {
             all: !selected.is_empty(),
@@ -439,9 +431,13 @@ pub(crate) fn git_worktree<'r, R: AllocGlobal + Files>(
 
 /// The repositories that may be nested in a worktree.
 #[derive(Clone, Copy)]
-struct Nested<'x> {
+struct Nested<'x, U> {
     /// The worktree's folder.
     top: &'x str,
+    /// The paths at which the index is compared with HEAD.
+    tops: &'x [Top<'x>],
+    /// Finds untracked files.
+    untracked: &'x U,
     /// The entries at whose paths they count.
     intended: &'x State,
     /// Which paths are explained, if that is asked for.
@@ -458,15 +454,15 @@ fn compare<
     S: SubmoduleStatus + Send,
     P: Pathspec + Send,
     A: AttributeFiles + Send,
-    B: FindBeside + Sync,
+    U: FindUntracked + Sync,
     O: io::Write,
     E: io::Write,
 >(
     rt: &'x R,
     request: &Request<'_>,
     read: ReadIndex<'b>,
-    nested: Nested<'x>,
-    asked: Asked<'x, W, S, P, A, B>,
+    nested: Nested<'x, U>,
+    asked: Asked<'x, W, S, P, A, Option<HeadCommit<'x, R>>>,
     output: &mut O,
     faults: &mut E,
 ) -> Refreshed<'b>
@@ -483,13 +479,23 @@ where
         worktree: asked.worktree,
         intended: nested.intended,
     };
+    let nothing = State::new(rt.alloc(), Moment::default());
+    let paths = Paths {
+        tops: nested.tops,
+        left_out: &nothing,
+    };
+    let head = head_at(asked.beside, paths);
+    let beside = Searches {
+        head: &head,
+        untracked: nested.untracked,
+    };
     let asked = Asked {
         settings: asked.settings,
         worktree: &worktree,
         submodules: asked.submodules,
         paths: asked.paths,
         attributes: asked.attributes,
-        beside: asked.beside,
+        beside: &beside,
     };
     if request.refresh && !request.explain {
         return if request.quiet {
