@@ -7,7 +7,7 @@ import unittest.mock
 
 from support.index_bytes import KINDS, checksum_of, parts_of
 from support.programs import GIT_DIRTY
-from support.repositories import COLUMNS, SETTINGS, STATUS_OF_HEADS, THEN, Case, as_dirty, read, write
+from support.repositories import COLUMNS, SETTINGS, STATUS_OF_HEADS, THEN, Case, as_dirty, read, status_of, write
 
 PLAIN = "[core]\n\trepositoryformatversion = 0\n"
 LF, CRLF = b"1\n2\n", b"1\r\n2\r\n"
@@ -56,7 +56,7 @@ class Dirty(Case):
 
     def assert_ends(self, ran, lines):
         """Asserts that the program printed these lines and nothing else, with their exit status."""
-        self.assertEqual((ran.returncode, ran.stdout, ran.stderr), (int(lines != b""), lines, b""))
+        self.assertEqual((ran.returncode, ran.stdout, ran.stderr), (status_of(lines), lines, b""))
 
     def assert_as_git(self, lines, *words, **settings):
         """Asserts that git and the program print these lines, and the program those of each column."""

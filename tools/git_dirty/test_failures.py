@@ -59,6 +59,9 @@ class Memory(Dirty):
         for name in ("a", "e é"):
             self.write(name, "bars")
         os.remove(self.path("d/b"))
+        for name in (".gitignore", "u", "n/o/u", "n/a.o", "x/a.o"):
+            self.write(name, "*.o")
+        self.make_module("r")
 
     def has_begun(self, calm, out):
         """Returns whether an output has the beginning of the calm run's lines of the worktree, and only lines of its index."""
@@ -106,6 +109,10 @@ class Memory(Dirty):
 
     def test_each_allocation_is_refused(self):
         for words in (["--threads", "1"], ["--threads", "2"], ["--threads", "1", "-z", "a", "d", "m"], ["--staged"], ["--worktree", "--threads", "1"]):
+            self.assert_swept(*words)
+
+    def test_each_allocation_of_a_run_with_untracked_files_is_refused(self):
+        for words in (["-u", "--threads", "1"], ["-uall", "--ignored", "--threads", "2"], ["-u", "--ignored", "-z", "n/o/u", "a"]):
             self.assert_swept(*words)
 
     def test_one_thread_starts_no_other(self):

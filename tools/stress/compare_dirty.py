@@ -26,7 +26,7 @@ sys.path.insert(0, os.path.dirname(os.path.dirname(os.path.abspath(__file__))))
 from stress.draw_repositories import Drawing, drawn
 from stress.seeds import main
 from support.programs import GIT_DIRTY, Runner, room_of_memory
-from support.repositories import COLUMNS, as_dirty, status_words
+from support.repositories import COLUMNS, as_dirty, status_of, status_words
 
 # How many repositories are made before their worktrees are edited.
 PART = 25
@@ -39,13 +39,16 @@ REFUSED = rb"\Agit dirty: no tracked file matches '.*'\n\Z"
 class Comparer:
     """Runs git and the program over one drawn repository."""
 
+    # What git may print to standard error after the edits, and words with which git's lines are counted.
+    WARNINGS, COUNTED = rb"", ()
+
     def __init__(self, git, program, drawing):
         self.git, self.program, self.drawing, self.top = git, program, drawing, drawing.top
 
     def lines(self, folder, *words):
         """Returns what git prints, and what the program may print to standard error. git has to succeed."""
         ended = self.git.run(status_words(folder, *words), self.drawing.environment)
-        if ended.status != 0 or ended.fault and self.drawing.IS_EDITED:
+        if ended.status != 0 or self.drawing.IS_EDITED and not re.fullmatch(self.WARNINGS, ended.fault):
             raise RuntimeError(f"git {words} in {folder}: {ended.text()}")
         return ended.out, NOTES if ended.fault else NOTHING
 
@@ -64,14 +67,18 @@ class Comparer:
         for _, words, its in [run for run in whole if chance(run[0])]:
             yield from (([*columns, *words], its) for columns in COLUMNS)
         if chance(0.5):
-            options, paths = ["-z"] if chance(0.3) else [], drawing.some_paths(folder)
-            for columns in COLUMNS:
-                found = [path for path in paths if self.selects(inside, path, columns)]
-                if found != paths:
-                    yield [*columns, "-C", inside, *options, "--", *paths], (None, REFUSED)
-                if found:
-                    words = [*options, "--", *found]
-                    yield [*columns, "-C", inside, *words], self.lines(inside, *words)
+            options = ["-z"] if chance(0.3) else []
+            yield from self.runs_of_paths(folder, COLUMNS, options, options)
+
+    def runs_of_paths(self, folder, each, ours, gits):
+        """Yields the arguments of runs with paths, and what git prints for each. Both have words of their own."""
+        inside, paths = os.path.join(self.top, folder), self.drawing.some_paths(folder)
+        for columns in each:
+            found = [path for path in paths if self.selects(inside, path, columns)]
+            if found != paths:
+                yield [*columns, "-C", inside, *ours, "--", *paths], (None, REFUSED)
+            if found:
+                yield [*columns, "-C", inside, *ours, "--", *found], self.lines(inside, *gits, "--", *found)
 
     def selects(self, folder, path, columns):
         """Returns whether a path selects something: an entry of the index or a file of HEAD is at it or below it, or a node is
@@ -92,24 +99,24 @@ class Comparer:
                 lines, notes = None, self.drawing.refusal
             lines = None if lines is None else as_dirty(lines, *words)
             printed = b"" if lines is None or "-q" in words else lines
-            status = 2 if lines is None else int(lines != b"")
+            status = 2 if lines is None else status_of(lines)
             notes = NOTHING if "--staged" in words and notes is NOTES else notes
             if (ended.status, ended.out) != (status, printed) or not re.search(notes, ended.fault):
                 drawn_by = "; ".join(self.drawing.notes)
                 yield f"seed {self.drawing.seed}, {words}: {ended.text()}\n  git: {printed!r}\n  drawn: {drawn_by}"
 
 
-def compared(seeds, keep=None, kind=Drawing, program=GIT_DIRTY):
+def compared(seeds, keep=None, kind=Drawing, program=GIT_DIRTY, comparer=Comparer):
     """Compares the repositories of some seeds. Returns the differences, and how many lines of each kind git has."""
     found, columns = [], collections.Counter()
     room_at = tempfile.TemporaryDirectory(dir=keep or room_of_memory())
     with room_at as room, Runner(shutil.which("git") or "git", 20) as git, Runner(program, 20) as ours:
         for drawing in drawn(kind, seeds, room):
-            comparer = Comparer(git, ours, drawing)
-            columns.update(line[:2].decode() for line in comparer.lines(drawing.top)[0].split(b"\n")[:-1])
+            one = comparer(git, ours, drawing)
+            columns.update(line[:2].decode() for line in one.lines(drawing.top, *one.COUNTED)[0].split(b"\n")[:-1])
             columns["files"] += len(drawing.paths)
             columns.update(drawing.kinds)
-            differences = [*comparer.differences()]
+            differences = [*one.differences()]
             found += differences
             if differences and keep:
                 # A file that is moved to another device would be another.

@@ -294,11 +294,3 @@ class CommitDrawing(Drawing):
     def edit_module(self, path, place):
         """Commits in a submodule, or puts something else in its place."""
         self.change_path(place, self.random.choice(["module", "module", "gone", "text", "link"]))
-
-    # What is asked of it.
-
-    def some_folder(self):
-        """Returns a folder of the worktree that is there, and that no other repository has."""
-        folder = super().some_folder()
-        above = [folder[:at] for at in range(1, len(folder) + 1) if folder[at : at + 1] in ("", "/")]
-        return "" if any(os.path.lexists(self.path(f"{one}/.git")) for one in above) else folder

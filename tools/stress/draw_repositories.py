@@ -401,16 +401,22 @@ class Drawing:
 
     def some_paths(self, folder):
         """Returns paths to ask for, relative to a folder of the worktree: of entries, folders, and of nothing."""
-        known = sorted(self.paths)
+        known = self.known_paths()
         above = sorted({path[: at + 1] for path in known for at, letter in enumerate(path) if letter == "/"})
         pool = known * 2 + [path.rstrip("/") for path in above] + above + ["nothing", "p", "r", "conflict 1"]
         drawn = self.random.sample(pool, self.random.randrange(1, 4)) + (["."] if self.chance(0.1) else [])
         return [relative(path, folder) for path in drawn]
 
+    def known_paths(self):
+        """Returns the paths that may be asked for."""
+        return sorted(self.paths)
+
     def some_folder(self):
-        """Returns a folder of the worktree that is there."""
-        above = {os.path.dirname(path) for path in self.paths if self.is_reached(path)}
-        return self.random.choice([path for path in sorted(above) if os.path.isdir(self.path(path))] or [""])
+        """Returns a folder of the worktree that is there, and that no other repository has."""
+        known = {os.path.dirname(path) for path in self.paths if self.is_reached(path)}
+        folder = self.random.choice([path for path in sorted(known) if os.path.isdir(self.path(path))] or [""])
+        above = [folder[:at] for at in range(1, len(folder) + 1) if folder[at : at + 1] in ("", "/")]
+        return "" if any(os.path.lexists(self.path(f"{one}/.git")) for one in above) else folder
 
 
 def relative(path, folder):

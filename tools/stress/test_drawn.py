@@ -9,7 +9,8 @@ import tempfile
 import unittest
 from functools import partial
 
-from stress import compare_commits, compare_dirty, compare_sparse, draw_histories, mutate_index, mutate_objects, mutate_settings
+from stress import compare_commits, compare_dirty, compare_sparse, compare_untracked, draw_histories, draw_untracked
+from stress import mutate_index, mutate_objects, mutate_settings
 from stress.draw_attributes import AttributeDrawing
 from stress.draw_commits import EACH
 from stress.draw_sparse import SPARSE
@@ -18,7 +19,7 @@ from support.programs import GIT_DIRTY, STATUS_PROGRAM, Ended
 from support.repositories import COLUMNS, CONFLICTS, as_dirty, merged, read, write
 
 # How many repositories are drawn, of each kind, and how many index files, settings and objects are mutated.
-REPOSITORIES, ATTRIBUTES, COMMITS, SPARSES = 1000, 200, 400, 200
+REPOSITORIES, ATTRIBUTES, COMMITS, SPARSES, UNTRACKED = 1000, 200, 400, 200, 200
 MUTATED, MUTATED_SETTINGS, MUTATED_OBJECTS = 10000, 10000, 2000
 
 # What spoils the end of a program, whose output is in the file `out`, and whose exit status is $status.
@@ -104,6 +105,11 @@ class Drawn(unittest.TestCase):
     def test_drawn_sparse_checkouts_are_compared_as_by_git(self):
         counts = self.run_seeds(compare_sparse.run, SPARSES, compare_dirty.PART)
         self.assertEqual({one for one in SPARSE if not counts[one]}, set())
+
+    def test_drawn_untracked_files_are_listed_as_by_git(self):
+        counts = self.run_seeds(compare_untracked.run, UNTRACKED, compare_dirty.PART)
+        self.assertEqual({one for one in draw_untracked.EACH if not counts[one]}, set())
+        self.assertGreater(min(counts["??"], counts["!!"]), 2 * UNTRACKED)
 
     def test_mutated_objects_are_refused_or_read_as_by_git(self):
         kinds = self.run_seeds(mutate_objects.run, MUTATED_OBJECTS, mutate_objects.PART // 2)

@@ -19,6 +19,8 @@ THEN = 1_600_000_000
 FOO = "19102815663d23f8b75a47e7a01965dcdc96468c"
 # The columns of conflicts.
 CONFLICTS = {b"DD", b"AU", b"UD", b"UA", b"DU", b"AA", b"UU"}
+# The letters of untracked files, and of ignored ones.
+UNTRACKED, IGNORED = b"??", b"!!"
 # The words for both columns, and for each alone.
 COLUMNS = ([], ["--worktree"], ["--staged"])
 SETTINGS = {"GIT_CONFIG_GLOBAL": os.devnull, "GIT_CONFIG_NOSYSTEM": "1", "LC_ALL": "C", "HOME": "/nonexistent"}
@@ -36,15 +38,21 @@ def status_words(top, *words):
 
 
 def as_dirty(printed, *words):
-    """Returns git's lines as the program prints them with these words: --staged and --worktree blank the other column, except in
-    conflicts, and lines without a letter are left out."""
+    """Returns git's lines as the program prints them with these words: --staged and --worktree blank the other column of tracked
+    files, except in conflicts, and lines without a letter are left out."""
     end, found = b"\0" if "-z" in words else b"\n", []
     for line in printed.split(end)[:-1]:
         front = line[:1] + b" " if "--staged" in words else b" " + line[1:2] if "--worktree" in words else line[:2]
-        front = line[:2] if line[:2] in CONFLICTS else front
+        front = line[:2] if line[:2] in CONFLICTS | {UNTRACKED, IGNORED} else front
         if front != b"  ":
             found.append(front + line[2:] + end)
     return b"".join(found)
+
+
+def status_of(lines):
+    """Returns the program's exit status after these lines. Those of ignored files don't count."""
+    end = b"\0" if b"\0" in lines else b"\n"
+    return int(any(line[:2] != IGNORED for line in lines.split(end)[:-1]))
 
 
 def merged(staged, lines):

@@ -1,9 +1,7 @@
 -- If no record is a difference, no entry differs.
-use Rattle.std.proofs.Common.{◌≡◌, ◌∙◌, ℕ, ◌+◌, ◌==◌, Bool, true, false, not, ◌||◌, List, [], ◌∷◌, length, map, All, Option, None, Some, Result, Ok, Err, IfOk, inl, inr, refl, sym, ap, subst, arith, IsTrue}
+use Rattle.std.proofs.Common.{◌≡◌, ◌∙◌, ℕ, ◌+◌, Bool, true, false, ◌||◌, List, [], ◌∷◌, map, All, Option, None, Some, Result, Ok, Err, IfOk, inl, inr, refl, sym, ap, subst, IsTrue}
 use Rattle.std.specs.Prelude.{slice_get}
 use Rattle.std.specs.List.{list_any, cons_option}
-use Rattle.std.proofs.lemmas.Bool.{false≢true}
-use Rattle.std.proofs.lemmas.Bool.Decides.{same_from_decides, Decides-eqb}
 use Rattle.std.proofs.lemmas.List.Elements.{All-nil, All-cons}
 use Rattle.std.proofs.lemmas.List.Folds.{list_any-append}
 use Rattle.git_status.specs.Lines.{differs}
@@ -17,15 +15,13 @@ use Rattle.status_call.specs.declared.index_as_worktree.types.Finding.{Finding}
 use Rattle.status_call.specs.declared.index_as_worktree.types.Outcome.{Outcome}
 use Rattle.status_compare.specs.declared.error.Error.{Error}
 use Rattle.status_index.specs.Entries.{IndexEntry}
-use Rattle.status_index.specs.States.{index_of}
 use Rattle.status_index.specs.declared.state.State.{State}
-use Rattle.git_staged.specs.Staged.{MayStage}
-use Rattle.git_staged.specs.declared.letters.Letter.{Letter}
+use Rattle.git_status.specs.Besides.{Beside, MayFind, is_anything}
 use Rattle.std.proofs.Math.Logic.{∥∥₁_map}
 use Rattle.status_call.specs.MayReturn.{MayReturn}
 use Rattle.status_call.specs.Views.{as_seen}
 use Rattle.git_status.specs.declared.lines.LineStyle.{LineStyle}
-use Rattle.git_status.specs.Runs.{Asking, CleanLaw, HasNoDifference, IsCommandEnd, IsExit, IsReport, IsCommandRun, IsSeenClean, IsStatusRun, NoneDiffers, is_difference}
+use Rattle.git_status.specs.Runs.{Asking, CleanLaw, HasNoDifference, IsCommandEnd, IsExit, IsReport, IsCommandRun, IsNothingBeside, IsSeenClean, IsStatusRun, NoneDiffers, is_difference}
 use Rattle.git_status.specs.declared.asked.Settings.{Settings}
 use Rattle.git_status.specs.declared.answer.Report.{Report}
 
@@ -54,13 +50,6 @@ not_early : (b d : Bool) → (b ≡ true → d ≡ true) → d ≡ false → b �
 not_early false d early none = refl
 not_early true d early none = absurd (let some = early refl in cc)
 
--- nothing is staged
-none_staged : (staged : List (List ℕ × Letter)) → not (length staged == 0) ≡ false → staged ≡ []
-none_staged [] h = refl
-none_staged (s ∷ more) h =
-    let some : (length (s ∷ more) == 0) ≡ false = same_from_decides (length (s ∷ more) == 0) false (Decides-eqb (length (s ∷ more)) 0) ((λ t. let no : false ≡ true = t in cc), (λ e. absurd (omega (arith, e)))) in
-    absurd (false≢true (sym (sym (ap not some) ∙ h)))
-
 module _ {T U : Type 0} where
   abbrev found_difference : Finding T U → Bool
   found_difference f = differs f.status
@@ -87,30 +76,30 @@ module _ {T U : Type 0} where
       (ap (list_any found_difference) (sym complete.records) ∙ any_mapped finding_of found_difference visits ∙ none)
       (first_none _ complete.no_fault)
 
-  met_clean : (q : Query T U) (index : State) (staged : List (List ℕ × Letter)) (visits : List (Visit T U)) (answer : Result Outcome Error) (r : Report) → IsTrue q.modelled → IsStatusReport q index [] answer visits → IsReport staged visits answer r → r.dirty ≡ false
+  met_clean : (q : Query T U) (index : State) (beside : Beside) (visits : List (Visit T U)) (answer : Result Outcome Error) (r : Report) → IsTrue q.modelled → IsStatusReport q index [] answer visits → IsReport beside visits answer r → r.dirty ≡ false
       → All (λ e. HasNoDifference (verdict q (considered_entries q index) e)) (considered_entries q index)
-  met_clean q index staged visits answer r modelled met report clean =
+  met_clean q index beside visits answer r modelled met report clean =
       let complete = subst (λ a. IfOk a (λ o. o.interrupted ≡ false → IsComplete q index (map finding_of met.more) o)) report.outcome (met.complete modelled) in
       let none = (neither _ _ (sym report.dirty ∙ clean)).0 in
       let whole = complete (not_early r.outcome.interrupted (list_any is_difference visits) report.early none) in
       complete_clean q index visits r.outcome none (subst (λ vs. IsComplete q index (map finding_of vs) r.outcome) (sym met.grew) whole)
 
-  met_unstaged : (staged : List (List ℕ × Letter)) (visits : List (Visit T U)) (answer : Result Outcome Error) (r : Report) → IsReport staged visits answer r → r.dirty ≡ false → staged ≡ []
-  met_unstaged staged visits answer r report clean = none_staged staged (neither _ _ (sym report.dirty ∙ clean)).1
+  met_nothing : (beside : Beside) (visits : List (Visit T U)) (answer : Result Outcome Error) (r : Report) → IsReport beside visits answer r → r.dirty ≡ false → is_anything beside ≡ false
+  met_nothing beside visits answer r report clean = (neither _ _ (sym report.dirty ∙ clean)).1
 
-  reported : (lines : Option LineStyle) (staged : List (List ℕ × Letter)) (visits : List (Visit T U)) (answer : Result Outcome Error) (old : Option (List ℕ)) (r : Report) (new : Option (List ℕ)) → IsCommandEnd lines staged visits answer old (Ok r) new → IsReport staged visits answer r
-  reported lines staged visits answer old r new (inl found) = found.1
-  reported lines staged visits answer old r new (inr failed) = absurd failed
+  reported : (lines : Option LineStyle) (beside : Beside) (visits : List (Visit T U)) (answer : Result Outcome Error) (old : Option (List ℕ)) (r : Report) (new : Option (List ℕ)) → IsCommandEnd lines beside visits answer old (Ok r) new → IsReport beside visits answer r
+  reported lines beside visits answer old r new (inl found) = found.1
+  reported lines beside visits answer old r new (inr failed) = absurd failed
 
-  run_unstaged : (may_stage : MayStage) (q : Query T U) (may : MayReturn U) (index : State) (s : Settings) (old : Option (List ℕ)) (r : Report) (new : Option (List ℕ)) → IsStatusRun may_stage q may index s old (Ok r) new → r.dirty ≡ false
-      → may_stage (index_of index) []
-  run_unstaged may_stage q may index s old r new run clean =
-      let report = reported s.lines run.staged run.visits run.answer old r new run.ended in subst (may_stage (index_of index)) (met_unstaged run.staged run.visits run.answer r report clean) run.found
+  run_nothing : (a : Asking T U) (q : Query T U) (index : State) (old : Option (List ℕ)) (r : Report) (new : Option (List ℕ)) → IsStatusRun a.may_find q a.may_return index a.settings old (Ok r) new → r.dirty ≡ false
+      → IsNothingBeside a index
+  run_nothing a q index old r new run clean =
+      let report = reported a.settings.lines run.beside run.visits run.answer old r new run.ended in (run.beside, run.found, met_nothing run.beside run.visits run.answer r report clean)
 
-  run_clean : (may_stage : MayStage) (q : Query T U) (may : MayReturn U) (index : State) (s : Settings) (old : Option (List ℕ)) (r : Report) (new : Option (List ℕ)) → IsTrue q.modelled → IsStatusRun may_stage q may index s old (Ok r) new → r.dirty ≡ false
+  run_clean : (may_find : MayFind) (q : Query T U) (may : MayReturn U) (index : State) (s : Settings) (old : Option (List ℕ)) (r : Report) (new : Option (List ℕ)) → IsTrue q.modelled → IsStatusRun may_find q may index s old (Ok r) new → r.dirty ≡ false
       → NoneDiffers q index
-  run_clean may_stage q may index s old r new modelled run clean =
-      met_clean q index run.staged run.visits run.answer r modelled run.computed.met (reported s.lines run.staged run.visits run.answer old r new run.ended) clean
+  run_clean may_find q may index s old r new modelled run clean =
+      met_clean q index run.beside run.visits run.answer r modelled run.computed.met (reported s.lines run.beside run.visits run.answer old r new run.ended) clean
 
   -- by what was seen of each entry
   pub clean_seen : (a : Asking T U) (bytes : List ℕ) (old new : Option (List ℕ)) → IsExit a bytes false old new → IsSeenClean a bytes
@@ -119,11 +108,11 @@ module _ {T U : Type 0} where
       let read = exit.2.0 in
       let run = exit.2.1 in
       let q = a.query read.converting.filter (settings a.settings.options read.index) in
-      let report = reported a.settings.lines run.staged run.visits run.answer old exit.0 new run.ended in (
+      let report = reported a.settings.lines run.beside run.visits run.answer old exit.0 new run.ended in (
         read,
-        run_unstaged a.may_stage q a.may_return read.index a.settings old exit.0 new run exit.1,
+        run_nothing a q read.index old exit.0 new run exit.1,
         ∥∥₁_map run.computed.seen (λ seen.
-            (record { views = seen.views; allowed = seen.allowed }, met_clean (as_seen q seen.views) read.index run.staged run.visits run.answer exit.0 refl seen.report report exit.1)),
+            (record { views = seen.views; allowed = seen.allowed }, met_clean (as_seen q seen.views) read.index run.beside run.visits run.answer exit.0 refl seen.report report exit.1)),
       )
 
   pub clean_law : (a : Asking T U) (bytes : List ℕ) → CleanLaw a bytes
@@ -132,6 +121,6 @@ module _ {T U : Type 0} where
       let read = exit.2.0 in let asked = settings a.settings.options read.index in
       let q = a.query read.converting.filter asked in (
         read,
-        run_unstaged a.may_stage q a.may_return read.index a.settings old exit.0 new exit.2.1 exit.1,
-        run_clean a.may_stage q a.may_return read.index a.settings old exit.0 new (modelled read.converting.filter asked) exit.2.1 exit.1,
+        run_nothing a q read.index old exit.0 new exit.2.1 exit.1,
+        run_clean a.may_find q a.may_return read.index a.settings old exit.0 new (modelled read.converting.filter asked) exit.2.1 exit.1,
       )

@@ -1,5 +1,5 @@
 -- How a status and its changes make a refresh.
-use Rattle.std.proofs.Common.{◌≡◌, ◌≢◌, ◌<◌, ◌^◌, ◌==◌, ℕ, Bool, true, false, List, [], ◌∷◌, length, Option, Result, Ok, Err, IfOk, inl, inr, refl, sym, ◌∙◌, subst}
+use Rattle.std.proofs.Common.{◌≡◌, ◌≢◌, ◌<◌, ◌^◌, ◌==◌, ℕ, Bool, true, false, List, [], ◌∷◌, length, Option, Result, Ok, Err, IfOk, inl, inr, refl, sym, subst}
 use Rattle.std.specs.Result.{IsErrAnd}
 use Rattle.std.proofs.lemmas.Bool.{false≢true}
 use Rattle.git_attributes.specs.Files.{File, Said, attributes_of}
@@ -20,16 +20,13 @@ use Rattle.status_call.specs.Visits.{Visit}
 use Rattle.status_call.specs.declared.index_as_worktree.types.Outcome.{Outcome}
 use Rattle.status_compare.specs.declared.error.Error.{Error}
 use Rattle.status_index.specs.declared.state.State.{State}
-use Rattle.git_staged.specs.Staged.{MayStage}
-use Rattle.git_staged.specs.declared.error.TreeFault.{TreeFault}
-use Rattle.git_staged.specs.declared.error.TreeFault.TheVariants as trees
-use Rattle.git_staged.specs.declared.letters.Letter.{Letter}
+use Rattle.git_status.specs.Besides.{Beside, MayFind}
 use Rattle.git_attributes.specs.declared.fault.AttributeFault.{AttributeFault}
 use Rattle.git_attributes.specs.declared.fault.AttributeFault.TheVariants as attributes
-use Rattle.git_status.specs.Failures.{failure_of_attributes, failure_of_head}
+use Rattle.git_status.specs.Failures.{failure_of_attributes}
 use Rattle.git_status.specs.Founds.{IsFoundIn, IsFoundRun, IsIndexFound}
 use Rattle.git_status.specs.Refreshes.{IsFileRefreshed, IsRefresh, IsRefreshedFile, IsUnrefreshed}
-use Rattle.git_status.specs.Runs.{Asking, Converting, IsComputed, IsEarly, IsCommandEnd, IsCommandRun, IsStatusRun, ReadFile}
+use Rattle.git_status.specs.Runs.{Asking, Converting, IsComputed, IsEarly, IsCommandEnd, IsCommandRun, IsStatusRun, IsUnfound, ReadFile}
 use Rattle.git_status.specs.declared.asked.Settings.{Settings}
 use Rattle.git_status.specs.declared.answer.Report.{Report}
 use Rattle.git_status.specs.declared.failure.Failure.{Failure}
@@ -46,64 +43,54 @@ not_empty (x ∷ xs) n len none nil = absurd (cc)
 -- memory that ran out early
 memory_early : {A : Type 0} (kind : HashKind) (bytes : List ℕ) (result : Result A Failure) → IsErrAnd result (λ f. f ≡ Memory) → IsErrAnd result (IsEarly kind bytes)
 memory_early kind bytes (Ok x) failed = absurd failed
-memory_early kind bytes (Err f) failed = inl failed
-
--- HEAD's files couldn't be read
-head_early : (kind : HashKind) (bytes : List ℕ) (fault : TreeFault) → IsEarly kind bytes (failure_of_head fault)
-head_early kind bytes trees.Memory = inl refl
-head_early kind bytes (trees.Object id fault) = inr (inr (inl (trees.Object id fault, refl)))
-head_early kind bytes (trees.NoTree id) = inr (inr (inl (trees.NoTree id, refl)))
-head_early kind bytes trees.NotAscending = inr (inr (inl (trees.NotAscending, refl)))
-head_early kind bytes trees.MixedHash = inr (inr (inl (trees.MixedHash, refl)))
-head_early kind bytes trees.ManyItems = inr (inr (inl (trees.ManyItems, refl)))
-head_early kind bytes trees.TooDeep = inr (inr (inl (trees.TooDeep, refl)))
+memory_early kind bytes (Err f) failed = inl (inl failed)
 
 -- an attribute file couldn't be read
 attributes_early : (kind : HashKind) (bytes : List ℕ) (fault : AttributeFault) → IsEarly kind bytes (failure_of_attributes fault)
-attributes_early kind bytes attributes.Memory = inl refl
-attributes_early kind bytes (attributes.Object path fault) = inr (inr (inr (path, fault, refl)))
+attributes_early kind bytes attributes.Memory = inl (inl refl)
+attributes_early kind bytes (attributes.Object path fault) = inr (inr (path, fault, refl))
 
 module _ {T U : Type 0} where
   -- the changes were found, if they are wanted
-  pub found_run : (wanted : Bool) (may_stage : MayStage) (said : Said) (query : Query T U) (may : MayReturn U) (index : State) (s : Settings) (staged : List (List ℕ × Letter)) (visits : List (Visit T U)) (answer : Result Outcome Error) (old : Option (List ℕ)) (found : Found) (new : Option (List ℕ))
-      → may_stage (index_of index) staged → IsComputed query may index s answer visits → IsCommandEnd s.lines staged visits answer old (Ok found.report) new → (wanted ≡ true → IsFoundIn said visits found) → IsFoundRun wanted may_stage said query may index s old (Ok found) new
-  found_run wanted may_stage said query may index s staged visits answer old found new is computed ended kept = (record { staged = staged; found = is; visits = visits; answer = answer; computed = computed; ended = ended }, kept)
+  pub found_run : (wanted : Bool) (may_find : MayFind) (said : Said) (query : Query T U) (may : MayReturn U) (index : State) (s : Settings) (beside : Beside) (visits : List (Visit T U)) (answer : Result Outcome Error) (old : Option (List ℕ)) (found : Found) (new : Option (List ℕ))
+      → may_find (index_of index) beside → IsComputed query may index s answer visits → IsCommandEnd s.lines beside visits answer old (Ok found.report) new → (wanted ≡ true → IsFoundIn said visits found) → IsFoundRun wanted may_find said query may index s old (Ok found) new
+  found_run wanted may_find said query may index s beside visits answer old found new is computed ended kept = (record { beside = beside; found = is; visits = visits; answer = answer; computed = computed; ended = ended }, kept)
 
   -- the counts of skipped entries have a sum that fits
-  pub skipped_fits : (query : Query T U) (may : MayReturn U) (index : State) (s : Settings) (staged : List (List ℕ × Letter)) (visits : List (Visit T U)) (answer : Result Outcome Error) (old : Option (List ℕ)) (r : Report) (new : Option (List ℕ))
-      → IsComputed query may index s answer visits → IsCommandEnd s.lines staged visits answer old (Ok r) new → skipped_of r.outcome < 2 ^ 64
-  skipped_fits query may index s staged visits answer old r new computed (inl ended) = subst (λ a. IfOk a (λ o. skipped_of o < 2 ^ 64)) ended.1.outcome computed.met.fits
-  skipped_fits query may index s staged visits answer old r new computed (inr failed) = absurd failed
+  pub skipped_fits : (query : Query T U) (may : MayReturn U) (index : State) (s : Settings) (beside : Beside) (visits : List (Visit T U)) (answer : Result Outcome Error) (old : Option (List ℕ)) (r : Report) (new : Option (List ℕ))
+      → IsComputed query may index s answer visits → IsCommandEnd s.lines beside visits answer old (Ok r) new → skipped_of r.outcome < 2 ^ 64
+  skipped_fits query may index s beside visits answer old r new computed (inl ended) = subst (λ a. IfOk a (λ o. skipped_of o < 2 ^ 64)) ended.1.outcome computed.met.fits
+  skipped_fits query may index s beside visits answer old r new computed (inr failed) = absurd failed
 
   -- the status has no report
-  pub unfound_run : (wanted : Bool) (may_stage : MayStage) (said : Said) (query : Query T U) (may : MayReturn U) (index : State) (s : Settings) (staged : List (List ℕ × Letter)) (visits : List (Visit T U)) (answer : Result Outcome Error) (old : Option (List ℕ)) (f : Failure) (result : Result Found Failure) (new : Option (List ℕ))
-      → may_stage (index_of index) staged → IsComputed query may index s answer visits → IsCommandEnd s.lines staged visits answer old (Err f) new → IsErrAnd result (λ e. e ≡ f) → IsFoundRun wanted may_stage said query may index s old result new
-  unfound_run wanted may_stage said query may index s staged visits answer old f (Ok found) new is computed ended failed = absurd failed
-  unfound_run wanted may_stage said query may index s staged visits answer old f (Err e) new is computed ended failed =
-      inl (subst (λ e. IsStatusRun may_stage query may index s old (Err e) new) (sym failed) (status_run may_stage query may index s staged visits answer old (Err f) new is computed ended))
+  pub unfound_run : (wanted : Bool) (may_find : MayFind) (said : Said) (query : Query T U) (may : MayReturn U) (index : State) (s : Settings) (beside : Beside) (visits : List (Visit T U)) (answer : Result Outcome Error) (old : Option (List ℕ)) (f : Failure) (result : Result Found Failure) (new : Option (List ℕ))
+      → may_find (index_of index) beside → IsComputed query may index s answer visits → IsCommandEnd s.lines beside visits answer old (Err f) new → IsErrAnd result (λ e. e ≡ f) → IsFoundRun wanted may_find said query may index s old result new
+  unfound_run wanted may_find said query may index s beside visits answer old f (Ok found) new is computed ended failed = absurd failed
+  unfound_run wanted may_find said query may index s beside visits answer old f (Err e) new is computed ended failed =
+      inl (subst (λ e. IsStatusRun may_find query may index s old (Err e) new) (sym failed) (status_run may_find query may index s beside visits answer old (Err f) new is computed ended))
 
   -- memory ran out after it, for the changes
-  pub late_run : (wanted : Bool) (may_stage : MayStage) (said : Said) (query : Query T U) (may : MayReturn U) (index : State) (s : Settings) (staged : List (List ℕ × Letter)) (visits : List (Visit T U)) (answer : Result Outcome Error) (old : Option (List ℕ)) (r : Report) (result : Result Found Failure) (new : Option (List ℕ))
-      → may_stage (index_of index) staged → IsComputed query may index s answer visits → IsCommandEnd s.lines staged visits answer old (Ok r) new → IsErrAnd result (λ e. e ≡ Memory) → wanted ≡ true → IsFoundRun wanted may_stage said query may index s old result new
-  late_run wanted may_stage said query may index s staged visits answer old r (Ok found) new is computed ended failed on = absurd failed
-  late_run wanted may_stage said query may index s staged visits answer old r (Err e) new is computed ended failed on = inr (r, status_run may_stage query may index s staged visits answer old (Ok r) new is computed ended, failed, on)
+  pub late_run : (wanted : Bool) (may_find : MayFind) (said : Said) (query : Query T U) (may : MayReturn U) (index : State) (s : Settings) (beside : Beside) (visits : List (Visit T U)) (answer : Result Outcome Error) (old : Option (List ℕ)) (r : Report) (result : Result Found Failure) (new : Option (List ℕ))
+      → may_find (index_of index) beside → IsComputed query may index s answer visits → IsCommandEnd s.lines beside visits answer old (Ok r) new → IsErrAnd result (λ e. e ≡ Memory) → wanted ≡ true → IsFoundRun wanted may_find said query may index s old result new
+  late_run wanted may_find said query may index s beside visits answer old r (Ok found) new is computed ended failed on = absurd failed
+  late_run wanted may_find said query may index s beside visits answer old r (Err e) new is computed ended failed on = inr (r, status_run may_find query may index s beside visits answer old (Ok r) new is computed ended, failed, on)
 
   -- the changes that were found are of entries of the index
-  pub found_inside : (may_stage : MayStage) (said : Said) (query : Query T U) (may : MayReturn U) (index : State) (s : Settings) (old : Option (List ℕ)) (found : Found) (new : Option (List ℕ)) → IsFoundRun true may_stage said query may index s old (Ok found) new → AreInside found.changes.items (index_of index)
-  found_inside may_stage said query may index s old found new run =
+  pub found_inside : (may_find : MayFind) (said : Said) (query : Query T U) (may : MayReturn U) (index : State) (s : Settings) (old : Option (List ℕ)) (found : Found) (new : Option (List ℕ)) → IsFoundRun true may_find said query may index s old (Ok found) new → AreInside found.changes.items (index_of index)
+  found_inside may_find said query may index s old found new run =
       subst (λ changes. AreInside changes (index_of index)) (sym (run.1 refl).0) (kept_inside said query index run.0.answer run.0.visits run.0.computed.met)
 
   -- the index of a file with a right checksum, whose line ends are converted, and the changes that its status asks for
   pub index_found : (wanted : Bool) (a : Asking T U) (bytes : List ℕ) (index : State) (files : List File) (filter : LineEnds) (old : Option (List ℕ)) (result : Result Found Failure) (new : Option (List ℕ))
       → EndsWithChecksum a.settings.kind bytes → a.are_files index files → attributes_view filter.attributes.now ≡ attributes_of files → filter.auto ≡ a.settings.auto_line_ends → filter.index.now ≡ index → filter.kind ≡ a.settings.kind
-      → IsFoundRun wanted a.may_stage (attributes_view filter.attributes.now) (a.query filter (settings a.settings.options index)) a.may_return index a.settings old result new → IsIndexFound wanted a bytes index old result new
+      → IsFoundRun wanted a.may_find (attributes_view filter.attributes.now) (a.query filter (settings a.settings.options index)) a.may_return index a.settings old result new → IsIndexFound wanted a bytes index old result new
   unfolding IsIndexFound
   index_found wanted a bytes index files filter old result new checked found attributes auto entries kind run =
       inl (
         checked,
         (
           record { files = files; found = found; filter = filter; attributes = attributes; auto = auto; entries = entries; kind = kind },
-          subst (λ said. IsFoundRun wanted a.may_stage said (a.query filter (settings a.settings.options index)) a.may_return index a.settings old result new) attributes run,
+          subst (λ said. IsFoundRun wanted a.may_find said (a.query filter (settings a.settings.options index)) a.may_return index a.settings old result new) attributes run,
         ),
       )
 
@@ -113,12 +100,12 @@ module _ {T U : Type 0} where
   unfolding IsIndexFound
   unfound_index wanted a bytes index known result failed = inr (memory_early a.settings.kind bytes result failed, refl)
 
-  -- HEAD's files can't be read
-  pub headless_index : (wanted : Bool) (a : Asking T U) (bytes : List ℕ) (index : State) (known : Option (List ℕ)) (fault : TreeFault) (f : Failure) (result : Result Found Failure)
-      → f ≡ failure_of_head fault → IsErrAnd result (λ e. e ≡ f) → IsIndexFound wanted a bytes index known result known
+  -- the findings next to the status can't be made
+  pub sightless_index : (wanted : Bool) (a : Asking T U) (bytes : List ℕ) (index : State) (known : Option (List ℕ)) (f : Failure) (result : Result Found Failure)
+      → IsUnfound f → IsErrAnd result (λ e. e ≡ f) → IsIndexFound wanted a bytes index known result known
   unfolding IsIndexFound
-  headless_index wanted a bytes index known fault f (Ok found) is failed = absurd failed
-  headless_index wanted a bytes index known fault f (Err e) is failed = inr (subst (IsEarly a.settings.kind bytes) (sym (failed ∙ is)) (head_early a.settings.kind bytes fault), refl)
+  sightless_index wanted a bytes index known f (Ok found) why failed = absurd failed
+  sightless_index wanted a bytes index known f (Err e) why failed = inr (inl (subst IsUnfound (sym failed) why), refl)
 
   -- an attribute file can't be read
   pub unattributed_index : (wanted : Bool) (a : Asking T U) (bytes : List ℕ) (index : State) (known : Option (List ℕ)) (fault : AttributeFault) (result : Result Found Failure)
@@ -134,7 +121,7 @@ module _ {T U : Type 0} where
 
   -- what was found
   abbrev FoundIn : Bool → Asking T U → State → Option (List ℕ) → Found → Option (List ℕ) → Type 0
-  FoundIn wanted a index old found new = (c : Converting a index) × IsFoundRun wanted a.may_stage (attributes_of c.files) (a.query c.filter (settings a.settings.options index)) a.may_return index a.settings old (Ok found) new
+  FoundIn wanted a index old found new = (c : Converting a index) × IsFoundRun wanted a.may_find (attributes_of c.files) (a.query c.filter (settings a.settings.options index)) a.may_return index a.settings old (Ok found) new
 
   found_in : (wanted : Bool) (a : Asking T U) (bytes : List ℕ) (index : State) (old : Option (List ℕ)) (found : Found) (new : Option (List ℕ))
       → IsIndexFound wanted a bytes index old (Ok found) new → EndsWithChecksum a.settings.kind bytes × FoundIn wanted a index old found new
@@ -151,7 +138,7 @@ module _ {T U : Type 0} where
   pub index_inside : (a : Asking T U) (bytes : List ℕ) (index : State) (old : Option (List ℕ)) (found : Found) (new : Option (List ℕ))
       → IsIndexFound true a bytes index old (Ok found) new → AreInside found.changes.items (index_of index)
   index_inside a bytes index old found new run =
-      let c = (found_in true a bytes index old found new run).1 in found_inside a.may_stage (attributes_of c.0.files) (a.query c.0.filter (settings a.settings.options index)) a.may_return index a.settings old found new c.1
+      let c = (found_in true a bytes index old found new run).1 in found_inside a.may_find (attributes_of c.0.files) (a.query c.0.filter (settings a.settings.options index)) a.may_return index a.settings old found new c.1
 
   module _ (a : Asking T U) (bytes : List ℕ) (old : Option (List ℕ)) (index : State) (version : ℕ) (extensions : List ℕ)
       (file : EndsWithChecksum a.settings.kind bytes → IsFileOf a.settings.kind bytes version (index_of index) extensions) (time : timestamp_of index ≡ a.settings.timestamp) where
@@ -186,7 +173,7 @@ module _ {T U : Type 0} where
         }
 
     -- a file that was read, and whose status fails, or memory ran out after it
-    unrefreshed : (f : Failure) (new : Option (List ℕ)) → EndsWithChecksum a.settings.kind bytes → (c : Converting a index) → IsFoundRun true a.may_stage (attributes_of c.files) (a.query c.filter (settings a.settings.options index)) a.may_return index a.settings old (Err f) new → IsUnrefreshed a bytes old f new
+    unrefreshed : (f : Failure) (new : Option (List ℕ)) → EndsWithChecksum a.settings.kind bytes → (c : Converting a index) → IsFoundRun true a.may_find (attributes_of c.files) (a.query c.filter (settings a.settings.options index)) a.may_return index a.settings old (Err f) new → IsUnrefreshed a bytes old f new
     unrefreshed f new checked c (inl run) = inl (file_run a bytes old (Err f) new (read_by checked c) run)
     unrefreshed f new checked c (inr late) = inr (late.0, file_run a bytes old (Ok late.0) new (read_by checked c) late.1, late.2)
 

@@ -1,3 +1,4 @@
+pub mod Besides
 pub mod Clean
 pub mod Fitting
 pub mod Founds

@@ -1,7 +1,7 @@
 -- The clauses of a refresh over any worktree, by the views of its status.
 use Rattle.std.proofs.Common.{◌≡◌, ℕ, Bool, true, false, List, Option, Some, Ok, sym, ◌∙◌, refl, if◌then◌else◌}
 use Rattle.git_status.specs.Differences.{PrintsSeen}
-use Rattle.git_status.specs.Refreshes.{IsFileRefreshed, IsRefresh}
+use Rattle.git_status.specs.Refreshes.{IsRefresh}
 use Rattle.git_status.specs.Runs.{Asking, IsCommandRun, IsSeenClean}
 use Rattle.git_status.specs.declared.answer.Report.{Report}
 use Rattle.git_status.specs.declared.lines.LineStyle.{LineStyle}

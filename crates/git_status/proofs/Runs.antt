@@ -1,5 +1,5 @@
 -- How the parts of a run make the whole.
-use Rattle.std.proofs.Common.{◌≡◌, ℕ, true, false, List, [], Option, None, Some, Result, Ok, Err, IfOk, IfSome, Bool, false, inl, inr, refl, subst}
+use Rattle.std.proofs.Common.{◌≡◌, ℕ, true, false, List, [], Option, None, Some, Result, Ok, Err, IfSome, Bool, false, inl, inr, refl}
 use Rattle.std.specs.Prelude.{is_some}
 use Rattle.std.proofs.Math.Logic.{∥∥₁_map}
 use Rattle.status_call.proofs.StatusProof.{met_along, unspawned_along}
@@ -9,22 +9,17 @@ use Rattle.std.specs.Result.{IsErrAnd}
 use Rattle.status_call.specs.Inputs.{settings}
 use Rattle.status_call.specs.MayReturn.{MayReturn}
 use Rattle.status_call.specs.Query.{Query}
-use Rattle.status_call.specs.StatusOf.{OneThreadSpawnsNone}
 use Rattle.status_call.specs.EntrySights.{IsViewAllowed}
-use Rattle.status_call.specs.StatusSeen.{IsStatusSeen}
-use Rattle.status_call.specs.StatusTheorem.{IsStatusReport}
 use Rattle.status_call.specs.Visits.{Visit}
 use Rattle.status_call.specs.declared.index_as_worktree.types.Outcome.{Outcome}
 use Rattle.status_compare.specs.declared.error.Error.{Error}
 use Rattle.status_index.specs.States.{index_of}
 use Rattle.status_index.specs.declared.state.State.{State}
-use Rattle.git_staged.specs.Staged.{MayStage}
-use Rattle.git_staged.specs.declared.letters.Letter.{Letter}
+use Rattle.git_status.specs.Besides.{Beside, MayFind}
 use Rattle.git_status.specs.Runs.{Asking, IsComputed, IsComputedBy, IsCommandEnd, IsCommandRun, IsEarly, IsStatusRun, ReadFile}
 use Rattle.git_status.specs.declared.asked.Settings.{Settings}
 use Rattle.git_status.specs.declared.answer.Report.{Report}
 use Rattle.git_status.specs.declared.failure.Failure.{Failure}
-use Rattle.git_status.specs.declared.failure.Failure.TheVariants.{Memory}
 
 module _ {T U : Type 0} where
   -- a status that was computed by an equal query, and by no more than what may be seen
@@ -39,13 +34,13 @@ module _ {T U : Type 0} where
   }
 
   -- a status that was computed, and how the command ended
-  pub status_run : (may_stage : MayStage) (query : Query T U) (may : MayReturn U) (index : State) (s : Settings) (staged : List (List ℕ × Letter)) (visits : List (Visit T U)) (answer : Result Outcome Error) (old : Option (List ℕ)) (result : Result Report Failure) (new : Option (List ℕ))
-      → may_stage (index_of index) staged → IsComputed query may index s answer visits → IsCommandEnd s.lines staged visits answer old result new → IsStatusRun may_stage query may index s old result new
-  status_run may_stage query may index s staged visits answer old result new found computed ended = record { staged = staged; found = found; visits = visits; answer = answer; computed = computed; ended = ended }
+  pub status_run : (may_find : MayFind) (query : Query T U) (may : MayReturn U) (index : State) (s : Settings) (beside : Beside) (visits : List (Visit T U)) (answer : Result Outcome Error) (old : Option (List ℕ)) (result : Result Report Failure) (new : Option (List ℕ))
+      → may_find (index_of index) beside → IsComputed query may index s answer visits → IsCommandEnd s.lines beside visits answer old result new → IsStatusRun may_find query may index s old result new
+  status_run may_find query may index s beside visits answer old result new found computed ended = record { beside = beside; found = found; visits = visits; answer = answer; computed = computed; ended = ended }
 
   -- a file that was read, and the status of its index
   pub file_run : (a : Asking T U) (bytes : List ℕ) (old : Option (List ℕ)) (result : Result Report Failure) (new : Option (List ℕ)) (read : ReadFile a bytes)
-      → IsStatusRun a.may_stage (a.query read.converting.filter (settings a.settings.options read.index)) a.may_return read.index a.settings old result new → IsCommandRun a bytes old result new
+      → IsStatusRun a.may_find (a.query read.converting.filter (settings a.settings.options read.index)) a.may_return read.index a.settings old result new → IsCommandRun a bytes old result new
   unfolding IsCommandRun
   file_run a bytes old (Ok r) new read run = (read, run)
   file_run a bytes old (Err f) new read run = inl (read, run)

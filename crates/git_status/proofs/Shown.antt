@@ -14,10 +14,9 @@ use Rattle.status_compare.specs.declared.error.Error.{Error}
 use Rattle.status_index.specs.Entries.{index_entry}
 use Rattle.status_index.specs.States.{backing_of, entries_of, index_of}
 use Rattle.status_index.specs.declared.state.State.{State}
-use Rattle.git_staged.specs.Staged.{MayStage}
-use Rattle.git_staged.specs.declared.letters.Letter.{Letter}
+use Rattle.git_status.specs.Besides.{Beside, MayFind, beside_text}
 use Rattle.git_status.specs.Differences.{LinesLaw, PrintsBoth, PrintsSeen, difference_rows, entry_row, finding_row}
-use Rattle.git_status.specs.Lines.{row_lines, status_row, visit_row, visit_rows, with_staged}
+use Rattle.git_status.specs.Lines.{status_row, visit_row, visit_rows}
 use Rattle.std.proofs.Math.Logic.{∥∥₁_map}
 use Rattle.status_call.specs.MayReturn.{MayReturn}
 use Rattle.status_call.specs.Views.{as_seen}
@@ -47,18 +46,18 @@ module _ {T U : Type 0} (index : State) where
       let complete = subst (λ a. IfOk a (λ o. o.interrupted ≡ false → IsComplete q index (map finding_of met.more) o)) found (met.complete modelled) in
       ap visit_rows met.grew ∙ all_rows met.more met.faithful ∙ ap (flat_map (finding_row (index_of index))) (complete whole).records
 
-  printed : (style : LineStyle) (s : Settings) (staged : List (List ℕ × Letter)) (visits : List (Visit T U)) (answer : Result Outcome Error) (old : Option (List ℕ)) (r : Report) (new : Option (List ℕ)) → s.lines ≡ Some style → IsCommandEnd s.lines staged visits answer old (Ok r) new
-      → Appends old new (row_lines style (with_staged (visit_rows visits) staged)) × (answer ≡ Ok r.outcome)
-  printed style s staged visits answer old r new loud (inl found) = (subst (λ lines. Appends old new (printed_text lines staged visits)) loud found.0, found.1.outcome)
-  printed style s staged visits answer old r new loud (inr failed) = absurd failed
+  printed : (style : LineStyle) (s : Settings) (beside : Beside) (visits : List (Visit T U)) (answer : Result Outcome Error) (old : Option (List ℕ)) (r : Report) (new : Option (List ℕ)) → s.lines ≡ Some style → IsCommandEnd s.lines beside visits answer old (Ok r) new
+      → Appends old new (beside_text style beside (visit_rows visits)) × (answer ≡ Ok r.outcome)
+  printed style s beside visits answer old r new loud (inl found) = (subst (λ lines. Appends old new (printed_text lines beside visits)) loud found.0, found.1.outcome)
+  printed style s beside visits answer old r new loud (inr failed) = absurd failed
 
   -- those of a query whose results are known
-  known_lines : (style : LineStyle) (may_stage : MayStage) (q query : Query T U) (may : MayReturn U) (s : Settings) (old : Option (List ℕ)) (r : Report) (new : Option (List ℕ)) → IsTrue q.modelled → s.lines ≡ Some style → (run : IsStatusRun may_stage query may index s old (Ok r) new)
-      → IsStatusReport q index [] run.answer run.visits → PrintsBoth style run.staged q index old new
-  known_lines style may_stage q query may s old r new modelled loud run met =
-      let ended = printed style s run.staged run.visits run.answer old r new loud run.ended in
+  known_lines : (style : LineStyle) (may_find : MayFind) (q query : Query T U) (may : MayReturn U) (s : Settings) (old : Option (List ℕ)) (r : Report) (new : Option (List ℕ)) → IsTrue q.modelled → s.lines ≡ Some style → (run : IsStatusRun may_find query may index s old (Ok r) new)
+      → IsStatusReport q index [] run.answer run.visits → PrintsBoth style run.beside q index old new
+  known_lines style may_find q query may s old r new modelled loud run met =
+      let ended = printed style s run.beside run.visits run.answer old r new loud run.ended in
       let whole = subst (λ a. IfOk a (λ o. o.interrupted ≡ false)) ended.1 (run.computed.whole (ap is_some loud)) in
-      subst (λ rows. Appends old new (row_lines style (with_staged rows run.staged))) (met_rows q run.visits run.answer r.outcome modelled met ended.1 whole) ended.0
+      subst (λ rows. Appends old new (beside_text style run.beside rows)) (met_rows q run.visits run.answer r.outcome modelled met ended.1 whole) ended.0
 
 module _ {T U : Type 0} where
   pub lines_law : (a : Asking T U) (bytes : List ℕ) → LinesLaw a bytes
@@ -66,7 +65,7 @@ module _ {T U : Type 0} where
   lines_law a bytes modelled style loud dirty old new exit =
       let read = exit.2.0 in let asked = settings a.settings.options read.index in let q = a.query read.converting.filter asked in
       let run = exit.2.1 in
-      (read, run.staged, run.found, known_lines read.index style a.may_stage q q a.may_return a.settings old exit.0 new (modelled read.converting.filter asked) loud run run.computed.met)
+      (read, run.beside, run.found, known_lines read.index style a.may_find q q a.may_return a.settings old exit.0 new (modelled read.converting.filter asked) loud run run.computed.met)
 
   -- by what was seen of each entry
   pub lines_seen : (a : Asking T U) (bytes : List ℕ) (style : LineStyle) → a.settings.lines ≡ Some style → (dirty : Bool) (old new : Option (List ℕ)) → IsExit a bytes dirty old new → PrintsSeen a style bytes old new
@@ -76,8 +75,8 @@ module _ {T U : Type 0} where
       let run = exit.2.1 in
       let q = a.query read.converting.filter (settings a.settings.options read.index) in (
         read,
-        run.staged,
+        run.beside,
         run.found,
         ∥∥₁_map run.computed.seen (λ seen.
-            (record { views = seen.views; allowed = seen.allowed }, known_lines read.index style a.may_stage (as_seen q seen.views) q a.may_return a.settings old exit.0 new refl loud run seen.report)),
+            (record { views = seen.views; allowed = seen.allowed }, known_lines read.index style a.may_find (as_seen q seen.views) q a.may_return a.settings old exit.0 new refl loud run seen.report)),
       )

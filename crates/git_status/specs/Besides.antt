@@ -1,8 +1,9 @@
 -- The findings next to a status: staged changes, and the nodes of the worktree that the index doesn't have.
-use Rattle.std.specs.Prelude.{◌==◌, ◌||◌, not, ℕ, Bool, List, [], ◌∷◌, ◌++◌, codes, length, map}
-use Rattle.git_staged.specs.Staged.{staged_view}
+use Rattle.std.specs.Prelude.{◌==◌, ◌||◌, not, ℕ, Bool, List, ◌++◌, codes, length, map}
+use Rattle.git_staged.specs.Staged.{MayStage, staged_view}
 use Rattle.git_staged.specs.declared.letters.Letter.{Letter}
 use Rattle.git_untracked.specs.Lines.{Lines, lines_view}
+use Rattle.git_untracked.specs.Untracked.{MayFind as MayFindOthers}
 use Rattle.git_status.specs.Lines.{Row, row_lines, with_staged}
 use Rattle.git_status.specs.declared.beside.Beside.{Beside as BesideType}
 use Rattle.git_status.specs.declared.lines.LineStyle.{LineStyle}
@@ -17,6 +18,10 @@ pub record Beside : Type 0 where
 -- What may be found for the entries of an index.
 abbrev pub MayFind : Type 1
 MayFind = List IndexEntry → Beside → Type 0
+
+-- Each part may be found for itself.
+abbrev pub may_find_both : MayStage → MayFindOthers → MayFind
+may_find_both may_stage may_find es beside = may_stage es beside.staged × may_find es beside.others
 
 -- Something is staged, or a node is untracked. An ignored one doesn't count.
 abbrev pub is_anything : Beside → Bool

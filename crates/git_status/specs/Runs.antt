@@ -1,5 +1,5 @@
 -- The output and the exit status of the command, over the bytes of an index file and a worktree.
-use Rattle.std.specs.Prelude.{◌≡◌, ◌==◌, ◌||◌, ◌⊎◌, ℕ, Bool, true, false, not, IsTrue, List, [], length, Option, Some, None, is_some, Result, Ok, Err, IfOk, All, ⊤, Vec}
+use Rattle.std.specs.Prelude.{◌≡◌, ◌||◌, ◌⊎◌, ℕ, Bool, true, false, IsTrue, List, [], Option, Some, None, is_some, Result, Ok, Err, IfOk, All, ⊤, Vec}
 use Rattle.std.specs.Global.{Global}
 use Rattle.std.specs.List.{list_any}
 use Rattle.std.specs.Result.{IsErrAnd}
@@ -14,7 +14,7 @@ use Rattle.git_objects.specs.declared.fault.ObjectFault.{ObjectFault}
 use Rattle.git_staged.specs.declared.error.TreeFault.{TreeFault}
 use Rattle.git_untracked.specs.declared.folders.FolderFault.{FolderFault}
 use Rattle.git_status.specs.Besides.{Beside, MayFind, beside_text, is_anything}
-use Rattle.git_status.specs.Lines.{differs, row_lines, visit_rows, with_staged}
+use Rattle.git_status.specs.Lines.{differs, visit_rows}
 use Rattle.git_status.specs.declared.lines.LineStyle.{LineStyle}
 use Rattle.status_call.specs.MayReturn.{MayReturn}
 use Rattle.status_call.specs.EntrySights.{IsViewAllowed}

@@ -4,6 +4,7 @@ ghost use Rattle.std.specs.Prelude.{◌≡◌, IfErr, IfOk, OnOk, map};
 ghost use Rattle.std.specs.Io.KnownBytes.{Appends};
 ghost use Rattle.std.specs.List.{list_any};
 ghost use Rattle.status_call.specs.RecorderVisits.{visit_of};
+ghost use Rattle.git_staged.specs.Staged.{staged_view};
 ghost use Rattle.git_status.specs.Besides.{beside_text, beside_view};
 ghost use Rattle.git_status.specs.Lines.{row_lines, visit_rows, with_staged};
 ghost use Rattle.git_status.specs.Runs.{IsCommandEnd, IsFound, IsPrintFailure, is_difference, printed_text};
@@ -13,6 +14,7 @@ use crate::columns::{push_beside, push_each};
 use crate::failure::Failure;
 use crate::lines::{LineStyle, letters};
 use bstr::BString;
+use git_staged::Staged;
 use status_call::index_as_worktree::{Error, Outcome, Record};
 use std::alloc::{AllocError, Global};
 use std::io;
@@ -97,6 +99,7 @@ fn report_of<T: Drop, U: Drop>(
 }
 
 /// Returns the lines of what is staged and of records, in the order of paths, and then those of what else was found.
+#[tactic(auto, using(crate::proofs::Besides::lines_more))]
 fn lines_of<T: Drop, U: Drop>(
     alloc: Global,
     style: LineStyle,
@@ -105,8 +108,22 @@ fn lines_of<T: Drop, U: Drop>(
 ) -> Result<Vec<u8>, AllocError>
     ensures { IfOk result (λ lines. lines.items ≡ beside_text style (beside_view beside.now) (visit_rows (map visit_of records.now))) }
 {
+    let mut lines = merged_lines(alloc, style, &beside.staged, records)?;
+    push_others(&mut lines, style, &beside.others)?;
+    Ok(lines)
+}
+
+/// Returns the lines of what is staged and of records, in the order of paths.
+fn merged_lines<T: Drop, U: Drop>(
+    alloc: Global,
+    style: LineStyle,
+    staged: &[Staged],
+    records: &[Record<'_, T, U>],
+) -> Result<Vec<u8>, AllocError>
+    ensures { IfOk result (λ lines. lines.items ≡ row_lines style (with_staged (visit_rows (map visit_of records.now)) (map staged_view staged.now))) }
+{
     let mut lines = Vec::new(alloc);
-    let mut rest = beside.staged.as_slice();
+    let mut rest = staged;
     for record in records {
         let Some(two) = letters(&record.status) else {
             continue;
@@ -114,7 +131,6 @@ fn lines_of<T: Drop, U: Drop>(
         rest = push_beside(&mut lines, style, rest, record.relative_path, two)?;
     }
     push_each(&mut lines, style, rest)?;
-    push_others(&mut lines, style, &beside.others)?;
     Ok(lines)
 }
 

@@ -3,6 +3,7 @@
 ghost use Rattle.std.specs.FinMap as ids;
 ghost use Rattle.status_index.specs.States.{index_of};
 ghost use Rattle.git_attributes.specs.WorktreeFiles.{AreFilesSeen, AreFilesWith, folders_of};
+ghost use Rattle.git_status.specs.Besides.{may_find_both};
 ghost use Rattle.git_status.specs.Inputs.{asked_inputs};
 ghost use Rattle.git_status.specs.Runs.{Asking};
 
@@ -69,7 +70,7 @@ impl<'a, W: Worktree, S: SubmoduleStatus, P: Pathspec, A: AttributeFiles, B: Fin
 
     ghost asking = { λ asked. record {
       query = λ filter. ⟦<Compared<'a, 'a, 'a, 'a, W, S, P> as Ask>⟧.query (asked_inputs asked filter);
-      may_find = B.may_find asked.beside.now;
+      may_find = may_find_both (B.may_stage asked.beside.now) (B.may_find asked.beside.now);
       are_files = λ index. AreFilesWith (AreFilesSeen (W.may_stat asked.worktree.now) (W.may_open asked.worktree.now) (folders_of (index_of index))) (A.are_files asked.attributes (index_of index));
       may_return = record {
         stat = W.may_stat asked.worktree.now;

@@ -47,7 +47,7 @@ pub(crate) fn push_each(
 }
 
 /// Appends the line of a path with the letters of a status.
-fn push_own(
+pub(crate) fn push_own(
     lines: &mut Vec<u8>,
     style: LineStyle,
     path: BStr<'_>,

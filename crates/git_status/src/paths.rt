@@ -79,17 +79,29 @@ impl Selection for Tops<'_> {
 
     fn leads(&self, folder: BStr<'_>) -> bool {
         let folder = folder.as_bytes();
-        self.tops.iter().any(|top| is_above(folder, top))
-            && !self.tops.iter().any(|top| is_exact(folder, top))
+        is_above_any(folder, self.tops) && !has_exact(folder, self.tops)
     }
+}
+
+/// Whether a path is that of a folder on the way to one of these.
+fn is_above_any(folder: &[u8], tops: &[Top<'_>]) -> bool
+    ensures { result ≡ list_any (is_above folder.now) tops.now }
+{
+    tops.iter().any(|top| is_above(folder, top))
+}
+
+/// Whether exactly a folder is one of these, with a slash.
+fn has_exact(folder: &[u8], tops: &[Top<'_>]) -> bool
+    ensures { result ≡ list_any (is_exact folder.now) tops.now }
+{
+    tops.iter().any(|top| is_exact(folder, top))
 }
 
 /// Whether a path is that of a folder on the way to a selected path.
 fn is_above(folder: &[u8], top: &Top<'_>) -> bool
     ensures { result ≡ is_above folder.now top.now }
 {
-    let path = top.path;
-    path.starts_with(folder) && path.len() > folder.len() && path[folder.len()] == b'/'
+    top.path.starts_with(folder) && is_component_end(false, &top.path[folder.len()..])
 }
 
 /// Whether exactly a folder is selected, with a slash.

@@ -2,7 +2,7 @@
 
 ghost use Rattle.std.specs.Prelude.{◌≡◌, ◌↔◌, IfErr, IfOk, IfSome, IsTrue, None, is_some, true, ⊤};
 ghost use Rattle.status_index.specs.States.{index_of};
-ghost use Rattle.git_status.specs.Besides.{beside_view};
+ghost use Rattle.git_status.specs.Besides.{beside_view, may_find_both};
 ghost use Rattle.status_call.specs.RecorderVisits.{visits_of};
 ghost use Rattle.git_index.specs.Refusals.{EndsWithChecksum};
 ghost use Rattle.git_status.specs.Reads.{IsRead};
@@ -10,7 +10,7 @@ ghost use Rattle.git_status.specs.Runs.{IsComputed, IsComputedBy, IsUnfound};
 ghost use Rattle.status_call.specs.Inputs.{settings};
 
 use crate::asked::{Asked, Question, Settings};
-use crate::beside::{Beside, FindBeside};
+use crate::beside::{Beside, FindBeside, find_beside};
 use crate::failure::Failure;
 use crate::read::ReadIndex;
 use crate::watcher::Watcher;
@@ -210,15 +210,15 @@ where
 {
     let (index, beside) = (&read.file.state, asked.beside);
     if let Some(1) = asked.settings.options.thread_limit {
-        let found = beside.find_beside(rt, index, true);
+        let found = find_beside(rt, beside, index, true);
         return (found, compute(rt, read, filter, asked));
     }
     join(
         rt,
         move || -> Result<Beside, Failure>
-            ensures found { IfOk result (λ found. B.may_find beside.entry.now (index_of index.entry.now) (beside_view found)) }
+            ensures found { IfOk result (λ found. may_find_both (B.may_stage beside.entry.now) (B.may_find beside.entry.now) (index_of index.entry.now) (beside_view found)) }
             ensures unfound { IfErr result IsUnfound }
-        { beside.find_beside(rt, index, false) },
+        { find_beside(rt, beside, index, false) },
         // A clause of its own brings the bounds of this function into the closure.
         move ||
             requires { IsRead asked.settings read.now }

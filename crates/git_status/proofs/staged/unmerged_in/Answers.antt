@@ -1,8 +1,8 @@
-use Rattle.std.proofs.Common.{rules, ◌≡◌, sym, ap, subst, ◌∙◌, ◌+◌, ◌≤◌, ◌++◌, List, [], ◌∷◌, length, map, arith}
+use Rattle.std.proofs.Common.{rules, sym, ap, subst, ◌∙◌, ◌+◌, ◌≤◌, List, length, map}
 use Rattle.std.proofs.lemmas.List.{map-append}
 use Rattle.bstr.specs.BStr.{bstr_bytes}
 use Rattle.status_index.specs.Entries.{IndexEntry, IsIndex}
-use Rattle.status_index.specs.States.{backing_of, entries_of, index_of}
+use Rattle.status_index.specs.States.{backing_of, entries_of}
 use Rattle.git_status.specs.StagedRuns.{unmerged_row}
 use Rattle.git_status.proofs.Unmerged.{IsReached, index_same, stored_plain, stored_none, end_inside, stored_selected, stored_left}
 use Rattle.git_status.proofs.staged.unmerged_in.Goals as goal
