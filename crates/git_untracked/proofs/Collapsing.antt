@@ -1,7 +1,7 @@
 -- The line of a folder in place of the lines that it replaces.
-use Rattle.std.proofs.Common.{◌≡◌, ◌∙◌, ℕ, ◌<◌, ◌≤◌, ◌+◌, Bool, true, false, List, [], ◌∷◌, ◌++◌, length, take, refl, sym, ap, append-nil, length-append, arith}
+use Rattle.std.proofs.Common.{◌≡◌, ◌∙◌, ℕ, ◌<◌, ◌≤◌, Bool, true, false, List, [], ◌∷◌, ◌++◌, length, take, refl, sym, ap, append-nil, length-append, arith}
 use Rattle.std.proofs.Math.Seq.{take-append_seam}
-use Rattle.git_untracked.specs.Lines.{Lines, and_lines, collapsed, collapsed_from, line_of, no_lines, own_line}
+use Rattle.git_untracked.specs.Lines.{Lines, and_lines, collapsed, collapsed_from, no_lines, own_line}
 
 abbrev pub both : List (List ℕ) → List (List ℕ) → Lines
 both u i = record { untracked = u; ignored = i }

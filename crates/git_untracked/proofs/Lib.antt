@@ -2,4 +2,5 @@ mod Collapsing
 mod Ordering
 mod Ranges
 mod Settled
+mod Thinning
 mod Walking

@@ -1,45 +1,48 @@
--- Tests of a path's entries, as they are stored and in the index.
-use Rattle.std.proofs.Common.{◌≡◌, ◌∙◌, ◌≤◌, Bool, not, ◌==◌, ◌||◌, List, [], ◌∷◌, length, refl, sym, ap, true, false, arith}
-use Rattle.std.specs.List.{list_any}
+-- Entries that settle their paths, as they are stored and in the index.
+use Rattle.std.proofs.Common.{◌≡◌, ◌∙◌, ℕ, zero, suc, ◌<◌, ◌||◌, ◌++◌, Bool, true, false, List, [], ◌∷◌, cond, length, map, take, drop, slice_index_or, refl, sym, ap, take-append-drop, arith}
+use Rattle.std.specs.List.{filter, list_any}
+use Rattle.std.specs.Str.{bytes_eq}
+use Rattle.std.specs.Cmp.Lexicographic.{bytes_decides}
+use Rattle.std.proofs.lemmas.Map.Text.{is_eq-slice_cmp}
+use Rattle.status_index.specs.Entries.{entry_at, index_entries, index_entry, path_in}
+use Rattle.status_index.specs.Stretch.{is_at}
 use Rattle.status_index.specs.declared.entry.Entry.{Entry}
 use Rattle.status_index.specs.declared.entry.PathStorage.{PathStorage}
-use Rattle.status_index.specs.Entries.{index_entries}
-use Rattle.status_index.specs.FlagBits.{stage_of_bits}
-use Rattle.status_index.specs.Mode.{is_submodule}
-use Rattle.git_untracked.specs.Questions.{is_settled, is_side}
+use Rattle.git_untracked.specs.Questions.{is_settled, settles}
 
-pub stored_submodule : (b : PathStorage) (es : List Entry) → list_any (λ e. is_submodule e.mode) (index_entries b es) ≡ list_any (λ e. is_submodule e.mode) es
-stored_submodule b [] = refl
-stored_submodule b (e ∷ es) = ap (λ x. is_submodule e.mode || x) (stored_submodule b es)
+-- Whether an entry settles its path doesn't depend on which path that is.
+pub stored_settles : (b : PathStorage) (wanted : Bool) (es : List Entry) → list_any (settles wanted) (index_entries b es) ≡ list_any (λ e. settles wanted (entry_at [] e)) es
+stored_settles b wanted [] = refl
+stored_settles b wanted (e ∷ es) = ap (λ (x : Bool). settles wanted (entry_at [] e) || x) (stored_settles b wanted es)
 
-pub stored_side : (b : PathStorage) (es : List Entry) → list_any is_side (index_entries b es) ≡ list_any (λ e. not (stage_of_bits e.flags.0 == 0)) es
-stored_side b [] = refl
-stored_side b (e ∷ es) = ap (λ x. not (stage_of_bits e.flags.0 == 0) || x) (stored_side b es)
+-- A text of two parts, each of which is a known one.
+pub joined : (text one other front back : List ℕ) (n : ℕ) → front ≡ take n text → back ≡ drop n text → bytes_eq front one ≡ true → bytes_eq back other ≡ true → text ≡ one ++ other
+joined text one other front back n f b same_front same_back =
+    sym (take-append-drop n text)
+    ∙ ap (λ (x : List ℕ). x ++ drop n text) (sym f ∙ (bytes_decides front one).0 same_front)
+    ∙ ap (λ (x : List ℕ). one ++ x) (sym b ∙ (bytes_decides back other).0 same_back)
 
--- Whether a path's entries settle it, by tests of the stored ones.
-pub settled_stored : (b : PathStorage) (wanted : Bool) (es : List Entry) → 1 ≤ length es
-    → is_settled wanted (index_entries b es) ≡ (list_any (λ e. is_submodule e.mode) es || not (wanted || list_any (λ e. not (stage_of_bits e.flags.0 == 0)) es))
-settled_stored b wanted [] some = absurd (omega (arith, some))
-settled_stored b wanted (e ∷ es) some =
-    ap (λ (x : Bool). x || not (wanted || list_any is_side (index_entries b (e ∷ es)))) (stored_submodule b (e ∷ es))
-    ∙ ap (λ (x : Bool). list_any (λ e. is_submodule e.mode) (e ∷ es) || not (wanted || x)) (stored_side b (e ∷ es))
+module _ {X Y : Type 0} (h : X → Y) (keeps passes : Y → Bool) where
+  -- An element that is kept passes.
+  found_at : (xs : List X) (i : ℕ) (d : X) → i < length xs → keeps (h (slice_index_or xs i d)) ≡ true → passes (h (slice_index_or xs i d)) ≡ true → list_any passes (filter keeps (map h xs)) ≡ true
+  found_at [] i d inside k p = absurd (omega (arith, inside))
+  found_at (x ∷ xs) zero d inside k p =
+      ap (λ (b : Bool). list_any passes (cond b (h x ∷ filter keeps (map h xs)) (filter keeps (map h xs)))) k
+      ∙ ap (λ (b : Bool). b || list_any passes (filter keeps (map h xs))) p
+  found_at (x ∷ xs) (suc i) d inside k p = later (keeps (h x)) (found_at xs i d (omega (arith, inside)) k p)
+    where
+      or_true : (b c : Bool) → c ≡ true → (b || c) ≡ true
+      or_true true c e = refl
+      or_true false c e = e
 
-module _ (b : PathStorage) (wanted : Bool) (es : List Entry) (some : 1 ≤ length es) where
-  abbrev any_submodule : Bool
-  any_submodule = list_any (λ e. is_submodule e.mode) es
+      later : (b : Bool) → list_any passes (filter keeps (map h xs)) ≡ true → list_any passes (cond b (h x ∷ filter keeps (map h xs)) (filter keeps (map h xs))) ≡ true
+      later true rest = or_true (passes (h x)) _ rest
+      later false rest = rest
 
-  abbrev any_side : Bool
-  any_side = list_any (λ e. not (stage_of_bits e.flags.0 == 0)) es
-
-  pub settled_submodule : any_submodule ≡ true → true ≡ is_settled wanted (index_entries b es)
-  settled_submodule h = sym (settled_stored b wanted es some ∙ ap (λ (x : Bool). x || not (wanted || any_side)) h)
-
-  -- By whether it is wanted or a side is there.
-  pub settled_plain : any_submodule ≡ false → (r : Bool) → r ≡ (wanted || any_side) → not r ≡ is_settled wanted (index_entries b es)
-  settled_plain h r e = ap not e ∙ sym (settled_stored b wanted es some ∙ ap (λ (x : Bool). x || not (wanted || any_side)) h)
-
-  pub settled_wanted : any_submodule ≡ false → (r : Bool) → r ≡ wanted → wanted ≡ true → not r ≡ is_settled wanted (index_entries b es)
-  settled_wanted h r same w = settled_plain h r (same ∙ (w ∙ sym (ap (λ (x : Bool). x || any_side) w)))
-
-  pub settled_side : any_submodule ≡ false → (r : Bool) → r ≡ any_side → wanted ≡ false → not r ≡ is_settled wanted (index_entries b es)
-  settled_side h r same w = settled_plain h r (same ∙ sym (ap (λ (x : Bool). x || any_side) w))
+-- A stored entry of a path settles it.
+pub settled_at : (b : PathStorage) (wanted : Bool) (es : List Entry) (at : ℕ) (e : Entry) (path : List ℕ)
+    → at < length es → slice_index_or es at e ≡ e → path_in b e ≡ path → settles wanted (entry_at [] e) ≡ true → is_settled wanted (index_entries b es) path ≡ true
+settled_at b wanted es at e path inside is same it =
+    found_at (index_entry b) (is_at path) (settles wanted) es at e inside
+    (ap (λ (x : Entry). is_at path (index_entry b x)) is ∙ (is_eq-slice_cmp (path_in b e) path ∙ (bytes_decides (path_in b e) path).1 same))
+    (ap (λ (x : Entry). settles wanted (entry_at [] x)) is ∙ it)

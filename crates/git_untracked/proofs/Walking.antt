@@ -1,13 +1,11 @@
 -- The lines of a walk, step by step.
-use Rattle.std.proofs.Common.{◌≡◌, ◌∙◌, ◌⊎◌, inl, inr, ℕ, ◌&&◌, ◌||◌, not, Bool, true, false, List, [], ◌∷◌, ◌++◌, Option, Some, None, length, take, drop, ◌<◌, ◌≤◌, ◌-◌, Vec, slice_index_or, refl, sym, ap, subst, append_assoc, append-nil, arith}
+use Rattle.std.proofs.Common.{◌≡◌, ◌∙◌, ℕ, not, Bool, true, false, List, [], ◌∷◌, ◌++◌, length, take, drop, ◌<◌, ◌≤◌, ◌-◌, Vec, slice_index_or, refl, sym, ap, subst, append_assoc, append-nil, arith}
 use Rattle.std.proofs.lemmas.List.{take_rest}
 use Rattle.std.specs.Global.{Global}
-use Rattle.status_index.specs.declared.stat.NodeKind.TheVariants as kinds
-use Rattle.git_ignore.specs.Rules.{Rule}
 use Rattle.git_untracked.specs.Lines.{Lines, and_lines, is_none_of, no_lines, paths_of}
-use Rattle.git_untracked.specs.Questions.{HasRules, Question, Within, file_rules}
+use Rattle.git_untracked.specs.Questions.{Question, Within}
 use Rattle.git_untracked.specs.Requests.{IsAdded}
-use Rattle.git_untracked.specs.Walks.{AreNodes, IsFolder, IsNamed}
+use Rattle.git_untracked.specs.Walks.{AreNodes, IsNamed}
 use Rattle.git_untracked.proofs.Collapsing.{both_same}
 
 and_none : (l : Lines) → and_lines l no_lines ≡ l

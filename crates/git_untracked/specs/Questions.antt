@@ -1,5 +1,5 @@
 -- The request of a walk for untracked files, and what a worktree may return to it.
-use Rattle.std.specs.Prelude.{◌≡◌, ◌⊎◌, ◌==◌, ◌&&◌, ◌||◌, not, ℕ, Bool, true, false, List, [], ◌∷◌, ◌++◌, filter, codes, Option, Some, None}
+use Rattle.std.specs.Prelude.{◌≡◌, ◌⊎◌, ◌==◌, ◌&&◌, ◌||◌, not, ℕ, Bool, true, List, [], ◌++◌, filter, codes, Option, Some, None}
 use Rattle.std.specs.List.{list_any}
 use Rattle.std.specs.Str.{bytes_eq}
 use Rattle.status_index.specs.Entries.{IndexEntry, stage_of}
@@ -43,21 +43,20 @@ has_below es folder = list_any (is_under folder) es
 abbrev pub is_special : List ℕ → Bool
 is_special name = bytes_eq name (codes ".git") || (bytes_eq name (codes ".") || bytes_eq name (codes ".."))
 
--- Whether an entry is a side of a conflict.
-abbrev pub is_side : IndexEntry → Bool
-is_side e = not (stage_of e == 0)
+-- By an entry no line is at its path or below it: it is a submodule's, or a tracked file's. A folder may be in place of the file, and then
+-- its nodes count if what is below is wanted. They also count if the path has only sides of a conflict, since one of these may have a folder.
+abbrev pub settles : Bool → IndexEntry → Bool
+settles wanted e = is_submodule e.mode || (not wanted && stage_of e == 0)
 
--- By the entries of a path no line is at it or below it: a submodule is there, or a tracked file. If a folder is in place of the file, its
--- nodes count if all untracked files or ignored nodes are wanted, if a path below is selected by itself, or if the path is in conflict, so
--- that a side may have a folder.
-abbrev pub is_settled : Bool → List IndexEntry → Bool
-is_settled wanted [] = false
-is_settled wanted (e ∷ es) = list_any (λ x. is_submodule x.mode) (e ∷ es) || not (wanted || list_any is_side (e ∷ es))
+-- An entry settles this path.
+abbrev pub is_settled : Bool → List IndexEntry → List ℕ → Bool
+is_settled wanted es path = list_any (settles wanted) (filter (is_at path) es)
 
--- No line is at a path or below it: it is settled by its entries, or nothing there is selected.
+-- No line is at a path or below it: the path is settled, or nothing there is selected. What is below is wanted if all untracked files or
+-- ignored nodes are, or if a path below is selected by itself.
 abbrev pub is_passed_over : Question → List ℕ → Bool
 is_passed_over q path =
-    is_settled (q.all || (q.ignored || q.leads path)) (filter (is_at path) q.index) || not (q.selects path true || q.leads path)
+    is_settled (q.all || (q.ignored || q.leads path)) q.index path || not (q.selects path true || q.leads path)
 
 abbrev pub file_rules : List ℕ → Option (List ℕ) → List Rule
 file_rules folder None = []

@@ -1,6 +1,5 @@
 -- The lines of a worktree's nodes that an index doesn't have, as git has them, by what the worktree returns.
-use Rattle.std.specs.Prelude.{◌≡◌, ◌⊎◌, ℕ, ◌&&◌, ◌||◌, not, Bool, true, false, List, [], ◌∷◌, ◌++◌, Option, Some, None, if◌then◌else◌}
-use Rattle.status_index.specs.declared.stat.NodeKind.{NodeKind}
+use Rattle.std.specs.Prelude.{◌≡◌, ◌⊎◌, ℕ, ◌&&◌, ◌||◌, not, Bool, true, false, List, [], ◌∷◌, ◌++◌, Some, None, if◌then◌else◌}
 use Rattle.status_index.specs.declared.stat.NodeKind.TheVariants as kinds
 use Rattle.status_walk.specs.Untracked.{is_tracked}
 use Rattle.git_ignore.specs.Excluded.{is_matched}

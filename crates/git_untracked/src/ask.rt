@@ -28,7 +28,7 @@ pub trait Ask {
     ghost use Rattle.status_walk.specs.Untracked.{is_tracked};
     ghost use Rattle.git_untracked.specs.Lines.{and_lines, lines_view, paths_of};
     ghost use Rattle.git_untracked.specs.Questions.{file_rules, is_passed_over};
-    ghost use Rattle.git_untracked.specs.Requests.{IsWay};
+    ghost use Rattle.git_untracked.specs.Requests.{IsWay, Thins};
     ghost use Rattle.git_untracked.specs.Walks.{file_lines};
 
     /// The question of the walk.
@@ -55,6 +55,17 @@ pub trait Ask {
         rules: &mut IgnoreRules,
     ) -> Result<(), FolderFault>
         ensures { OnOk result ((file : Option (List ℕ)) × (question self.now).may_ignore folder.now file × (rules_view rules.new ≡ rules_view rules.old ++ file_rules folder.now file)) };
+
+    /// Returns the names in a folder without some that are passed over, so that fewer nodes are asked for.
+    ///
+    /// # Errors
+    /// Out of memory.
+    fn without_settled(
+        &self,
+        folder: &[u8],
+        names: Vec<Vec<u8>>,
+    ) -> Result<Vec<Vec<u8>>, FolderFault>
+        ensures { IfOk result (λ thin. Thins (is_passed_over (question self.now)) folder.now (paths_of names.items) (paths_of thin.items)) };
 
     /// Returns whether no line is at a path or below it.
     fn passes_over(&self, path: &[u8]) -> bool

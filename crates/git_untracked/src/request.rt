@@ -1,13 +1,13 @@
 //! The request of a walk.
 
-ghost use Rattle.std.specs.Prelude.{◌≡◌, ◌==◌, ◌<◌, not, length};
+ghost use Rattle.std.specs.Prelude.{◌≡◌, ◌<◌, ◌++◌, [], true, IfOk, length};
 ghost use Rattle.std.specs.List.{list_any};
-ghost use Rattle.status_index.specs.FlagBits.{stage_of_bits};
-ghost use Rattle.status_index.specs.Mode.{is_submodule};
-ghost use Rattle.status_index.specs.Entries.{index_entries};
+ghost use Rattle.bstr.specs.BStr.{bstr_bytes};
+ghost use Rattle.status_index.specs.Entries.{entry_at};
 ghost use Rattle.status_index.specs.States.{index_of};
-ghost use Rattle.status_index.specs.declared.entry.PathStorage.{PathStorage};
-ghost use Rattle.git_untracked.specs.Questions.{has_below, is_settled};
+ghost use Rattle.git_untracked.specs.Lines.{paths_of};
+ghost use Rattle.git_untracked.specs.Questions.{has_below, is_settled, settles};
+ghost use Rattle.git_untracked.specs.Requests.{Thins};
 
 use crate::ask::{Ask, Way};
 use crate::folders::{FolderFault, Folders};
@@ -19,7 +19,9 @@ use git_patterns::text::is_word;
 use status_base::worktree::NodeKind;
 use status_index::{Entry, Fault, State};
 use status_walk::untracked::is_tracked;
-use std::alloc::Global;
+use std::alloc::{AllocError, Global};
+use std::cmp::Ordering;
+use std::ops::Range;
 
 /// The name of ignore files.
 const IGNORE_FILE: &[u8] = b".gitignore";
@@ -82,13 +84,28 @@ impl<F: Folders, P: Selection> Ask for Request<'_, F, P> {
         }
     }
 
+    fn without_settled(
+        &self,
+        folder: &[u8],
+        names: Vec<Vec<u8>>,
+    ) -> Result<Vec<Vec<u8>>, FolderFault> {
+        if self.all || self.ignored {
+            return Ok(names);
+        }
+        match self.index.prefixed_entries_range(BStr::new(folder)) {
+            Some(range) => {
+                let thin = unsettled(self.alloc, self.index, self.paths, &range, folder, names)?;
+                Ok(thin)
+            }
+            None => Ok(names),
+        }
+    }
+
     fn passes_over(&self, path: &[u8]) -> bool {
         let path = BStr::new(path);
         let leads = self.paths.leads(path);
-        is_settled(
-            self.index.entries_at(path),
-            self.all || self.ignored || leads,
-        ) || !(self.paths.selects(path, true) || leads)
+        is_settled(self.index, path, self.all || self.ignored || leads)
+            || !(self.paths.selects(path, true) || leads)
     }
 
     fn kind_at(&self, path: &[u8]) -> Result<Option<NodeKind>, FolderFault> {
@@ -137,29 +154,103 @@ impl<F: Folders, P: Selection> Ask for Request<'_, F, P> {
     }
 }
 
-/// Returns whether no line is at a path or below it by its entries. `wanted` is whether all untracked files, ignored nodes or a
-/// path below are wanted.
-fn is_settled(entries: &[Entry], wanted: bool) -> bool
-    ensures { (backing : PathStorage) → result ≡ is_settled wanted (index_entries backing entries.now) }
+/// Returns whether an entry settles this path. `wanted` is whether what is below is wanted.
+fn is_settled(index: &State, path: BStr<'_>, wanted: bool) -> bool
+    ensures { result ≡ is_settled wanted (index_of index.now) (bstr_bytes path.entry) }
 {
-    match entries {
-        [] => false,
-        [_, ..] => has_submodule(entries) || !(wanted || has_side(entries)),
+    any_settles(index.entries_at(path), wanted)
+}
+
+/// Returns whether one of these entries settles its path. `wanted` is whether what is below is wanted.
+fn any_settles(entries: &[Entry], wanted: bool) -> bool
+    ensures { result ≡ list_any (λ e. settles wanted (entry_at [] e)) entries.now }
+{
+    entries.iter().any(|entry| settles(entry, wanted))
+}
+
+/// Returns whether an entry settles its path. `wanted` is whether what is below is wanted.
+fn settles(entry: &Entry, wanted: bool) -> bool
+    ensures { result ≡ settles wanted (entry_at [] entry.now) }
+{
+    entry.mode.is_submodule() || (!wanted && entry.stage_raw() == 0)
+}
+
+/// Returns the names in a folder without those that are found to be settled. `range` is that of the folder's entries, and only
+/// what is below a path that leads is wanted.
+///
+/// # Errors
+/// Out of memory.
+fn unsettled<P: Selection>(
+    alloc: Global,
+    index: &State,
+    paths: &P,
+    range: &Range<usize>,
+    folder: &[u8],
+    names: Vec<Vec<u8>>,
+) -> Result<Vec<Vec<u8>>, AllocError>
+    ensures { IfOk result (λ thin. Thins (λ path. is_settled (P.leads paths.now path) (index_of index.now) path) folder.now (paths_of names.items) (paths_of thin.items)) }
+{
+    let mut thin = Vec::new(alloc);
+    for name in names {
+        if !is_settled_in(index, paths, range, folder, &name) {
+            thin.push(name)?;
+        }
+    }
+    Ok(thin)
+}
+
+/// Returns whether an entry of a name in a folder was found that settles its path. `range` is that of the folder's entries.
+fn is_settled_in<P: Selection>(
+    index: &State,
+    paths: &P,
+    range: &Range<usize>,
+    folder: &[u8],
+    name: &[u8],
+) -> bool
+    ensures { result ≡ true → is_settled (P.leads paths.now (folder.now ++ name.now)) (index_of index.now) (folder.now ++ name.now) ≡ true }
+{
+    let at = search(index, range, folder.len(), name);
+    match index.entries().get(at) {
+        Some(entry) => {
+            let path = entry.path_in(index.path_backing());
+            is_joined(path.as_bytes(), folder, name) && settles(entry, paths.leads(path))
+        }
+        None => false,
     }
 }
 
-/// Returns whether one of these entries is a submodule's.
-fn has_submodule(entries: &[Entry]) -> bool
-    ensures { result ≡ list_any (λ e. is_submodule e.mode) entries.now }
-{
-    entries.iter().any(|entry| entry.mode.is_submodule())
+/// Returns the position at which a range of the index has an entry of this name, if one is there. The name comes after the
+/// first `skipped` bytes of the path.
+fn search(index: &State, range: &Range<usize>, skipped: usize, name: &[u8]) -> usize {
+    let (entries, backing) = (index.entries(), index.path_backing());
+    let mut low = range.start;
+    let mut high = range.end;
+    'halves: while low < high {
+        let middle = low + (high - low) / 2;
+        let Some(entry) = entries.get(middle) else {
+            return middle;
+        };
+        let path = entry.path_in(backing).as_bytes();
+        let Some(rest) = path.get(skipped..) else {
+            return middle;
+        };
+        match rest.cmp(name) {
+            Ordering::Less => low = middle + 1,
+            Ordering::Equal => return middle,
+            Ordering::Greater => high = middle,
+        }
+    }
+    low
 }
 
-/// Returns whether one of these entries is a side of a conflict.
-fn has_side(entries: &[Entry]) -> bool
-    ensures { result ≡ list_any (λ e. not (stage_of_bits e.flags.0 == 0)) entries.now }
+/// Returns whether a path is that of a name in a folder.
+fn is_joined(path: &[u8], folder: &[u8], name: &[u8]) -> bool
+    ensures { result ≡ true → path.now ≡ folder.now ++ name.now }
 {
-    entries.iter().any(|entry| entry.stage_raw() != 0)
+    match path.split_at_checked(folder.len()) {
+        Some((front, back)) => is_word(front, folder) && is_word(back, name),
+        None => false,
+    }
 }
 
 /// Returns whether an entry is below a folder.

@@ -54,7 +54,8 @@ pub(crate) fn walk_folder<Q: Ask>(
     };
     let count = rules.count();
     add_rules(ask, within, path, &names, rules)?;
-    walk_names(ask, fewer, within, &names, path, rules, lines)?;
+    let thin = ask.without_settled(path, names)?;
+    walk_names(ask, fewer, within, &thin, path, rules, lines)?;
     rules.truncate(count);
     Ok(())
 }

@@ -1,12 +1,13 @@
-use Rattle.std.proofs.Common.{◌≡◌, ◌⊎◌, Some, ◌∙◌, ◌++◌, ◌∷◌, ◌&&◌, [], true, false, not, if◌then◌else◌, inl, inr, refl, sym, ap, subst}
+use Rattle.std.proofs.Common.{◌⊎◌, Some, ◌∙◌, ◌++◌, ◌∷◌, ◌&&◌, [], true, false, not, if◌then◌else◌, inl, inr, refl, sym, ap, subst}
 use Rattle.status_index.specs.declared.stat.NodeKind.TheVariants as kinds
 use Rattle.status_walk.specs.Untracked.{is_tracked}
 use Rattle.std.proofs.lemmas.Result.{on_ok_weaker}
 use Rattle.git_ignore.specs.Views.{rules_view}
-use Rattle.git_untracked.specs.Lines.{Lines, collapsed, lines_view, no_lines, own_line, paths_of}
-use Rattle.git_untracked.specs.Questions.{Within}
-use Rattle.git_untracked.specs.Requests.{IsAdded, within_view}
+use Rattle.git_untracked.specs.Lines.{collapsed, lines_view, no_lines, own_line, paths_of}
+use Rattle.git_untracked.specs.Questions.{Within, is_passed_over}
+use Rattle.git_untracked.specs.Requests.{Thins, within_view}
 use Rattle.git_untracked.specs.Walks.{AreNodes, IsFolder, IsNamed, IsNode, IsSubfolder, file_lines, is_ignored}
+use Rattle.git_untracked.proofs.Thinning.{thins_nodes}
 use Rattle.git_untracked.proofs.Walking.{added_as, added_none, no_paths, not_true, so_far_end, so_far_enough, so_far_more, so_far_start, split_paths}
 use Rattle.git_untracked.proofs.walk.+walk.Goals as goal
 
@@ -25,9 +26,12 @@ walk_folder-returns-clause-lines g t c =
     let rules = rules_view c.add_rules.new.rules in
     let names = paths_of c.in-Some-2.names.items in
     let listed = rw (c.in-Some-2.is, c.deref.ensures.value) at c.in_ok-names.ensures in
-    added_as (AreNodes q folder (within_view c.args.within rules) names) (IsFolder q folder w) _ _
-    (λ lines nodes. IsFolder.listed folder w rules names lines listed (rw c.deref-2.ensures.value at c.in_ok-add_rules.ensures.2) nodes)
-    (rw c.deref-4.ensures.value at c.in_ok-walk_names.ensures.lines)
+    let thin = paths_of c.in_ok-thin.thin.items in
+    let thins : Thins (is_passed_over q) folder names thin = rw c.deref-4.ensures.value at c.in_ok-thin.ensures in
+    let within = within_view c.args.within rules in
+    added_as (AreNodes q folder within thin) (IsFolder q folder w) _ _
+    (λ lines nodes. IsFolder.listed folder w rules names lines listed (rw c.deref-2.ensures.value at c.in_ok-add_rules.ensures.2) (thins_nodes q folder within names thin thins lines nodes))
+    (rw c.deref-5.ensures.value at c.in_ok-walk_names.ensures.lines)
 
 pub walk_name-returns-then-is_special-clause-lines : goal.walk_name-returns-then-is_special-clause-lines
 walk_name-returns-then-is_special-clause-lines g t c =

@@ -1,8 +1,8 @@
-use Rattle.std.proofs.Common.{◌≡◌, ◌∙◌, ◌<◌, ◌≤◌, ℕ, Bool, true, false, List, length, take, sym, ap, arith}
+use Rattle.std.proofs.Common.{◌≡◌, ◌∙◌, ◌<◌, ◌≤◌, ℕ, true, false, List, length, take, sym, ap, arith}
 use Rattle.std.proofs.lemmas.List.{length-map, take-map}
 use Rattle.std.proofs.lemmas.Result.{on_ok_weaker}
 use Rattle.git_untracked.specs.Lines.{and_lines, lines_view, own_line, paths_of}
-use Rattle.git_untracked.proofs.Collapsing.{both, ignored_stands, nothing_stands, untracked_stands}
+use Rattle.git_untracked.proofs.Collapsing.{both, ignored_stands, untracked_stands}
 use Rattle.git_untracked.proofs.lines.Lines.collapse.Goals as goal
 
 pub returns-then-len-end : goal.returns-then-len-end
