@@ -125,9 +125,9 @@ unwritten() {
 # Changes the index file as git's commands don't: see steps.py.
 index() { python3 "$(dirname "${BASH_SOURCE[0]}")/steps.py" "$@"; }
 
-# Prints the version that the recipe of docs/GIT_DIRTY.md finds. Its other words are in $room/err.
+# Prints the version that the command of docs/GIT_DIRTY.md finds. Its other words are in $room/err.
 version() {
-  recipe=$(sed -n '/^is_dirty() (/,/^```$/p' "$(dirname "${BASH_SOURCE[0]}")/../../docs/GIT_DIRTY.md" | sed '$d')
+  command=$(sed -n '/^if git dirty -q -u; then version=/p' "$(dirname "${BASH_SOURCE[0]}")/../../docs/GIT_DIRTY.md")
   mkdir -p "$room/bin" && ln -sf "$dirty" "$room/bin/git-dirty"
-  PATH=$room/bin:$PATH sh -c "$recipe"$'\nprintf %s "$version"' 2>"$room/err"
+  PATH=$room/bin:$PATH sh -c "$command"$'\nprintf %s "$version"' 2>"$room/err"
 }

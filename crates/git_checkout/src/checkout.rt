@@ -74,8 +74,9 @@ where
 }
 
 /// Writes the lines of the checkout's differences to `output`, and notes and failures to `faults`. Returns the exit status of
-/// `git dirty`: 0 if nothing is staged and nothing differs, 1 if something is or does, and 2 after a failure. A path that isn't UTF-8 fails by itself:
-/// all other lines are written, then a line for each such path, and the index isn't refreshed.
+/// `git dirty`: 0 if nothing is staged, nothing differs and no file that is asked for is untracked, 1 otherwise, and 2 after a
+/// failure. A path that isn't UTF-8 fails by itself: all other lines are written, then a line for each such path, and the index
+/// isn't refreshed.
 pub fn run<R: AllocGlobal + Env + Files + Sync + Threads + Wait, O: io::Write, E: io::Write>(
     rt: &R,
     request: &Request<'_>,

@@ -12,7 +12,7 @@ pub enum Columns {
     Both,
     /// The index with HEAD alone. No file of the worktree is asked for.
     Staged,
-    /// The worktree with the index alone. No object is read.
+    /// The worktree with the index alone. Objects are read only for attribute files and a `.gitmodules` that it doesn't have.
     Worktree,
 }
 

@@ -14,15 +14,16 @@ ghost use Rattle.git_status.specs.declared.asked.Settings.{Settings as AskedSett
 
 use crate::asked::Question;
 
-/// Over a modelled worktree, exit status 0 means that nothing is staged, as far as was found, and that no entry of the index
-/// differs from the worktree, of those that are compared.
+/// Over a modelled worktree, exit status 0 means that nothing is staged and no node is untracked, as far as was found, and that
+/// no entry of the index differs from the worktree, of those that are compared.
 pub fn clean_means_no_difference<T: Drop, Q: Question>(asked: &Q)
     ensures { (query : LineEnds → StatusSettings → Query T Q.Submodule) (settings : AskedSettings) (bytes : List ℕ)
         → CleanLaw (record { query = query; are_files = (Q.asking asked.now).are_files; may_find = (Q.asking asked.now).may_find; may_return = (Q.asking asked.now).may_return; settings = settings }) bytes }
 {}
 
-/// Over a modelled worktree and with exit status 0 or 1, the output grew by the lines of exactly what was found to be staged
-/// and the entries that differ from the worktree, of those that are compared, unless the command is quiet.
+/// Over a modelled worktree and with exit status 0 or 1, the output grew by the lines of exactly what was found to be staged,
+/// the entries that differ from the worktree, of those that are compared, and the untracked and ignored nodes that were found,
+/// unless the command is quiet.
 pub fn lines_are_of_all_differences<T: Drop, Q: Question>(asked: &Q)
     ensures { (query : LineEnds → StatusSettings → Query T Q.Submodule) (settings : AskedSettings) (bytes : List ℕ)
         → LinesLaw (record { query = query; are_files = (Q.asking asked.now).are_files; may_find = (Q.asking asked.now).may_find; may_return = (Q.asking asked.now).may_return; settings = settings }) bytes }

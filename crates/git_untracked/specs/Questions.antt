@@ -52,7 +52,7 @@ settles wanted e = is_submodule e.mode || (not wanted && stage_of e == 0)
 abbrev pub is_settled : Bool → List IndexEntry → List ℕ → Bool
 is_settled wanted es path = list_any (settles wanted) (filter (is_at path) es)
 
--- No line is at a path or below it: the path is settled, or nothing there is selected. What is below is wanted if all untracked files or
+-- No line is at a path or below it: the path is settled, or nothing there is selected. Nodes below are wanted if all untracked files or
 -- ignored nodes are, or if a path below is selected by itself.
 abbrev pub is_passed_over : Question → List ℕ → Bool
 is_passed_over q path =
