@@ -66,9 +66,12 @@ class Memory(Dirty):
     def has_begun(self, calm, out):
         """Returns whether an output has the beginning of the calm run's lines of the worktree, and only lines of its index."""
         zero = ["-z"] * (b"\0" in calm)
+        # Untracked files are listed after the others, also if the comparison of these failed.
+        parts = [re.match(rb"(?s)(.*?)((?:(?:\?\?|!!) .*)?)\Z", it).groups() for it in (calm, out)]
+        (calm, all_others), (out, others) = parts
         (whole, part), staged = ([as_dirty(it, *zero, columns) for it in (calm, out)] for columns in ("--worktree", "--staged"))
         lines, found = ({*re.split(b"[\0\n]", it)} for it in staged)
-        return whole.startswith(part) and found <= lines
+        return whole.startswith(part) and found <= lines and all_others.startswith(others)
 
     def wrong(self, calm, ended, letters, on):
         """Returns what is wrong with an end, or None."""

@@ -124,6 +124,21 @@ class Untracked(Dirty):
             else:
                 self.assert_ends(ran, b"?? closed/\n" if "-u" in words else b"?? closed/u\n")
 
+    def test_rules_that_cannot_be_read_are_passed_over_or_a_failure(self):
+        self.write("u", "foo")
+        self.put_config("\texcludesFile = mine\n")
+        for name in (".gitignore", "mine", ".git/info/exclude"):
+            with self.subTest(name):
+                self.write(name, "u\n")
+                os.chmod(self.path(name), 0)
+                ran, lines = self.ran("-u", "u"), b"?? u\n"
+                os.remove(self.path(name))
+                if ran.returncode == 2:
+                    self.assert_fails(ran, re.escape(name))
+                else:
+                    self.assertEqual((ran.returncode, ran.stdout), (1, lines))
+                    self.assertRegex(ran.stderr, NOTES)
+
     # Folders that change.
 
     def disturb(self, ended):

@@ -33,7 +33,7 @@ PART = 25
 # What the program may print to standard error if git prints warnings there, and otherwise.
 NOTES, NOTHING = rb"\A(git dirty: note: [^\n]*\n)*\Z", rb"\A\Z"
 # Its failure for a path that selects nothing.
-REFUSED = rb"\Agit dirty: no tracked file matches '.*'\n\Z"
+REFUSED = rb"(?s)\Agit dirty: no tracked file matches '.*'\n\Z"
 
 
 class Comparer:

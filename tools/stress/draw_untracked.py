@@ -6,7 +6,7 @@ before it is edited.
 
 import os
 
-from stress.draw_repositories import FOLDERS, NAMES, Drawing
+from stress.draw_repositories import FOLDERS, NAMES, Drawing, relative
 from support.repositories import SETTINGS, id_of, make_git_folder, put_socket, write
 
 # Folders without a tracked file, and names for rules. Names that aren't UTF-8 are those of files alone.
@@ -20,7 +20,7 @@ REPOSITORIES = ["folder", "file", "lost file", "empty", "text"]
 ATOMS = ["a", "b", "n", "*", "**", "?", "/", "/", "[ab]", "[!a]", "a*", "*.o", "\\a", "\\*", "b/", "/n", "**/", "/**", "u.?", "p", "o"]
 USER_FILES = ["absolute", "in HOME", "XDG_CONFIG_HOME", "HOME", "not there", "none", "none"]
 # What has to come.
-EACH = {*KINDS, *USER_FILES, "not UTF-8", "module in conflict", "repository of tracked files"}
+EACH = {*KINDS, *USER_FILES, "not UTF-8", "module in conflict", "repository of tracked files", "repository in place of a file"}
 EACH |= {f"repository: {form}" for form in REPOSITORIES}
 EACH |= {f"rules: {how}" for how in ("file", "link", "folder", "staged", "skipped", "gone")}
 
@@ -123,9 +123,8 @@ class UntrackedDrawing(Drawing):
         self.put_user_file()
         for above, names, _ in os.walk(self.top):
             names[:] = sorted(name for name in names if name != ".git")
-            folder = os.path.relpath(above, self.top).removeprefix(".")
             if self.chance(0.25):
-                self.put_rules_of(os.path.join(folder, ".gitignore"))
+                self.put_rules_of(os.path.relpath(os.path.join(above, ".gitignore"), self.top))
 
     def put_user_file(self):
         """Writes the user's file of rules, as git finds it by a setting or by the environment."""
@@ -171,6 +170,15 @@ class UntrackedDrawing(Drawing):
         if how != "staged":
             os.remove(place)
 
+    # The edits.
+
+    def put_other(self, path, place, how):
+        super().put_other(path, place, how)
+        if how == "folder" and self.chance(0.3):
+            self.note("repository")
+            self.kinds.add("repository in place of a file")
+            make_git_folder(f"{place}/.git", "ref: refs/heads/main")
+
     def draw_settings(self):
         super().draw_settings()
         with open(self.path(".git/config"), "a", encoding="utf-8") as file:
@@ -184,6 +192,10 @@ class UntrackedDrawing(Drawing):
     def some_paths(self, folder):
         """Returns paths to ask for. Those for which git compares nested repositories by bytes are left out."""
         drawn = super().some_paths(folder)
+        if self.chance(0.3):
+            # A folder with a slash at its end is another one to git if a path below it is asked for too.
+            path = self.random.choice(self.known_paths())
+            drawn += [relative(it, folder) for it in (path, f"{os.path.dirname(path)}/") if os.path.dirname(path)]
         return [path for path in drawn if not self.is_doubtful(os.path.normpath(os.path.join(folder, path)))]
 
     def is_doubtful(self, path):
