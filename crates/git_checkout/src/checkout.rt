@@ -279,11 +279,7 @@ where
         worktree,
         top: found.front,
     };
-    let paths = Tops {
-        are_all: tops.is_empty(),
-        tops: &own_tops,
-    };
-    let untracked = untracked_for(request, &folders, paths, &outer);
+    let untracked = untracked_for(request, &folders, tops.is_empty(), &own_tops, &outer);
     let asked = Asked {
         settings,
         worktree,
@@ -403,11 +399,12 @@ fn outer_files_for<R: AllocGlobal + Env + Files>(
     Ok(outer_ignore_files(rt, repository)?)
 }
 
-/// Returns the search for untracked files, if they are asked for.
+/// Returns the search for untracked files, if they are asked for: of all paths, or of those that are selected by themselves.
 fn untracked_for<'a, F>(
     request: &Request<'_>,
     folders: &'a F,
-    paths: Tops<'a>,
+    are_all: bool,
+    tops: &'a [Top<'a>],
     outer: &'a [Vec<u8>],
 ) -> Option<Untracked<'a, F, Tops<'a>>> {
     if request.untracked == UntrackedFiles::No {
@@ -415,7 +412,7 @@ fn untracked_for<'a, F>(
     }
     Some(Untracked {
         folders,
-        paths,
+        paths: Tops { are_all, tops },
         outer,
         all: request.untracked == UntrackedFiles::All,
         ignored: request.ignored,
