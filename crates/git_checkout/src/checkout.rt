@@ -279,7 +279,21 @@ where
         worktree,
         top: found.front,
     };
-    let untracked = untracked_for(request, &folders, tops.is_empty(), &own_tops, &outer);
+    let search = Untracked {
+        folders: &folders,
+        paths: Tops {
+            are_all: tops.is_empty(),
+            tops: &own_tops,
+        },
+        outer: &outer,
+        all: request.untracked == UntrackedFiles::All,
+        ignored: request.ignored,
+    };
+    let untracked = if request.untracked == UntrackedFiles::No {
+        None
+    } else {
+        Some(search)
+    };
     let asked = Asked {
         settings,
         worktree,
@@ -397,26 +411,6 @@ fn outer_files_for<R: AllocGlobal + Env + Files>(
         return Err(Refused::IgnoresCase);
     }
     Ok(outer_ignore_files(rt, repository)?)
-}
-
-/// Returns the search for untracked files, if they are asked for: of all paths, or of those that are selected by themselves.
-fn untracked_for<'a, F>(
-    request: &Request<'_>,
-    folders: &'a F,
-    are_all: bool,
-    tops: &'a [Top<'a>],
-    outer: &'a [Vec<u8>],
-) -> Option<Untracked<'a, F, Tops<'a>>> {
-    if request.untracked == UntrackedFiles::No {
-        return None;
-    }
-    Some(Untracked {
-        folders,
-        paths: Tops { are_all, tops },
-        outer,
-        all: request.untracked == UntrackedFiles::All,
-        ignored: request.ignored,
-    })
 }
 
 /// Returns the worktree that begins at `top`, with all that git records of a file.
