@@ -45,8 +45,9 @@ where
             Err(error) => return none_if_missing(fault_of(error.kind())),
         };
         let mut names = Vec::new(self.rt.alloc());
-        // Each part has whole names, for which there has to be room.
-        let mut part = [0u8; PART];
+        // Each part has whole names, for which there has to be room. It isn't on the stack, on which folders are within each other.
+        let mut part = Vec::new(self.rt.alloc());
+        part.resize(PART, 0)?;
         for _ in 0..u64::MAX {
             match listing.read(&mut part) {
                 Ok(0) => return Ok(Some(names)),
