@@ -14,18 +14,19 @@ use crate::request::{Columns, Request, Selected, UntrackedFiles, selected_by};
 use crate::selection::{Exceptions, check_each, own_tops_of, tops_of, untracked_of};
 use crate::sparse::whole_index;
 use crate::staged::run_staged;
+use crate::untracked::{UntrackedParts, outer_files_for};
 use git_attributes::{AttributeFiles, WithStaged};
 use git_explain::{Wanted, run_explain};
 use git_repository::{
     GitAttributeFiles, IgnoredSubmodules, IntendedWorktree, Repository, SubmoduleHeads,
-    outer_ignore_files, time_of_lock,
+    time_of_lock,
 };
 use git_status::lines::LineStyle;
 use git_status::{
-    Asked, Failure, Paths, ReadIndex, Refreshed, Searches, Settings, Top, Tops, print_failure,
-    run_dirty, run_refresh,
+    Asked, Failure, Paths, ReadIndex, Refreshed, Searches, Settings, Top, print_failure, run_dirty,
+    run_refresh,
 };
-use git_untracked::{FindUntracked, Untracked};
+use git_untracked::FindUntracked;
 use status_base::worktree::{DiskWorktree, Pathspec, StatFields, SubmoduleStatus, Worktree};
 use status_call::index_as_worktree::{Capabilities, Options};
 use status_index::{Moment, State, stat};
@@ -261,8 +262,6 @@ where
     } = found;
     let tops = tops_of(alloc, selected)?;
     let staged_tops = tops_of(alloc, selected)?;
-    let own_tops = own_tops_of(alloc, selected)?;
-    let outer = outer_files_for(rt, request, repository)?;
     let unknown = untracked_of(alloc, &read.file.state, selected)?;
     let objects = LazyObjects { rt, repository };
     let attributes = AskedFor {
@@ -273,27 +272,20 @@ where
             objects: &objects,
         },
     };
-    let folders = DiskFolders {
-        rt,
-        repository,
-        worktree,
-        top: found.front,
-    };
-    let search = Untracked {
-        folders: &folders,
-        paths: Tops {
-            are_all: tops.is_empty(),
-            tops: &own_tops,
-        },
-        outer: &outer,
-        all: request.untracked == UntrackedFiles::All,
+    let parts = UntrackedParts {
+        mode: request.untracked,
         ignored: request.ignored,
+        folders: DiskFolders {
+            rt,
+            repository,
+            worktree,
+            top: found.front,
+        },
+        outer: outer_files_for(rt, request, repository)?,
+        are_all: tops.is_empty(),
+        tops: own_tops_of(alloc, selected)?,
     };
-    let untracked = if request.untracked == UntrackedFiles::No {
-        None
-    } else {
-        Some(search)
-    };
+    let untracked = parts.search();
     let asked = Asked {
         settings,
         worktree,
@@ -393,24 +385,6 @@ fn entered<'t, R: Env>(rt: &R, top: &'t str, enter: bool) -> &'t str {
     } else {
         top
     }
-}
-
-/// Returns the ignore files outside of the worktree, if untracked files are asked for.
-///
-/// # Errors
-/// A setting can't be read, git compares paths without regard to case, or out of memory.
-fn outer_files_for<R: AllocGlobal + Env + Files>(
-    rt: &R,
-    request: &Request<'_>,
-    repository: &Repository,
-) -> Result<Vec<Vec<u8>>, Refused> {
-    if request.untracked == UntrackedFiles::No {
-        return Ok(Vec::new(rt.alloc()));
-    }
-    if repository.settings.ignore_case {
-        return Err(Refused::IgnoresCase);
-    }
-    Ok(outer_ignore_files(rt, repository)?)
 }
 
 /// Returns the worktree that begins at `top`, with all that git records of a file.

@@ -6,7 +6,7 @@
 //! file (`index_file`), make that of a sparse checkout whole (`sparse`) and choose its entries (`selection`). `staged` is
 //! the call for the first column alone. The contract of the comparison is that of `run_dirty` in the crate git_status.
 //! `objects` reads what git reads of the index if the worktree has no file, and `attributes` chooses such attribute files.
-//! `folders` lists the worktree for untracked files. `refresh` writes the new index file, and `refused` is why a call can't
+//! `untracked` has the search for untracked files, for which `folders` lists the worktree. `refresh` writes the new index file, and `refused` is why a call can't
 //! begin.
 #![tactic(auto)]
 
@@ -23,6 +23,7 @@ pub mod request;
 mod selection;
 mod sparse;
 mod staged;
+mod untracked;
 
 pub use checkout::{is_dirty, run};
 pub use request::{Columns, Request, UntrackedFiles};
