@@ -23,6 +23,8 @@ const NAME: &[u8] = b".gitignore";
 const PART: usize = 4096;
 
 /// The folders of a worktree.
+///
+/// A walk has as many calls within each other as folders are, so that the memory of these methods mustn't be part of its own.
 #[derive(Drop)]
 pub(crate) struct DiskFolders<'x, R, W> {
     pub(crate) rt: &'x R,
@@ -38,6 +40,7 @@ where
 {
     ghost may_be = { λ f path. MayBe (W.may_stat f.worktree.now path) };
 
+    #[inline(never)]
     fn list(&self, folder: BStr<'_>) -> Result<Option<Vec<Vec<u8>>>, Fault> {
         let path = self.path_of(folder)?;
         let mut listing = match self.rt.open_dir(path.as_str()) {
@@ -45,7 +48,7 @@ where
             Err(error) => return none_if_missing(fault_of(error.kind())),
         };
         let mut names = Vec::new(self.rt.alloc());
-        // Each part has whole names, for which there has to be room. It isn't on the stack, on which folders are within each other.
+        // Each part has whole names, for which there has to be room.
         let mut part = Vec::new(self.rt.alloc());
         part.resize(PART, 0)?;
         for _ in 0..u64::MAX {
@@ -59,6 +62,7 @@ where
         Err(Fault::Memory)
     }
 
+    #[inline(never)]
     fn kind(&self, path: BStr<'_>) -> Result<Option<NodeKind>, Fault> {
         match self.worktree.lstat(path) {
             Ok(node) => Ok(Some(node.kind)),
@@ -69,6 +73,7 @@ where
         }
     }
 
+    #[inline(never)]
     fn ignore_file(
         &self,
         index: &State,
@@ -97,6 +102,7 @@ where
         }
     }
 
+    #[inline(never)]
     fn is_repository(&self, folder: BStr<'_>) -> Result<bool, Fault> {
         let path = self.path_of(folder)?;
         Ok(is_repository(self.rt, path.as_str())?)
