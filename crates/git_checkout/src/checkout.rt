@@ -185,84 +185,42 @@ where
     requires { IsRead settings read }
 {
     let alloc = rt.alloc();
-    let index = &read.file.state;
-    let (repository, old, is_remade) = (found.repository, found.file, found.is_remade);
-    check_each(alloc, index, found.worktree, found.head, found.selected)?;
-    let modules = modules_of(rt, repository, index, found.head)?;
-    let ignored = IgnoredSubmodules::new(alloc, &modules, &repository.config)?;
-    let exceptions = Exceptions::of(alloc, index, found.worktree, found.selected, &ignored)?;
-    let begun = if request.refresh {
-        Some(time_of_lock(rt, repository.index.as_str()))
-    } else {
-        None
-    };
-    let submodules = SubmoduleHeads::new(rt, repository.top.as_str(), &ignored);
-    let compared = compare_selected(
-        rt,
-        request,
-        found,
-        settings,
-        submodules,
-        &exceptions,
-        read,
-        output,
-        faults,
-    )?;
-    if compared.status == FAILED {
-        return Ok(FAILED);
-    }
-    note_unread(request, repository, &ignored, faults);
-    if !exceptions.illformed.is_empty() {
-        return Ok(print_illformed(alloc, &exceptions.illformed, faults));
-    }
-    let Some(begun) = begun else {
-        return Ok(compared.status);
-    };
-    let refresh = Refresh {
-        repository,
-        old,
-        is_remade,
-        begun,
-    };
-    refresh.end(rt, compared)
-}
-
-/// Prints the status of an index that was read, over the selected paths, without these exceptions.
-///
-/// # Errors
-/// A setting can't be read, or out of memory, before anything is compared.
-fn compare_selected<
-    'x,
-    'b,
-    R: AllocGlobal + Env + Files + Sync + Threads + Wait,
-    O: io::Write,
-    E: io::Write,
->(
-    rt: &'x R,
-    request: &Request<'_>,
-    found: Found<'x, R>,
-    settings: Settings,
-    submodules: SubmoduleHeads<'x, R>,
-    exceptions: &'x Exceptions,
-    read: ReadIndex<'b>,
-    output: &mut O,
-    faults: &mut E,
-) -> Result<Refreshed<'b>, Refused>
-where
-    R::File: FileExt + Send + Sync,
-    R::Dir: Send,
-    requires { IsRead settings read }
-{
-    let alloc = rt.alloc();
     let Found {
         repository,
         selected,
+        head,
         worktree,
-        ..
+        front,
+        file,
+        is_remade,
     } = found;
+    let top = repository.top.as_str();
+    let index = &read.file.state;
+    check_each(alloc, index, worktree, head, selected)?;
+    let modules = modules_of(rt, repository, index, head)?;
+    let ignored = IgnoredSubmodules::new(alloc, &modules, &repository.config)?;
+    let Exceptions {
+        left_out,
+        intended,
+        illformed,
+    } = Exceptions::of(alloc, index, worktree, selected, &ignored)?;
     let tops = tops_of(alloc, selected)?;
     let staged_tops = tops_of(alloc, selected)?;
-    let unknown = untracked_of(alloc, &read.file.state, selected)?;
+    let unknown = untracked_of(alloc, index, selected)?;
+    let parts = UntrackedParts {
+        mode: request.untracked,
+        ignored: request.ignored,
+        folders: DiskFolders {
+            rt,
+            repository,
+            worktree,
+            top: front,
+        },
+        outer: outer_files_for(rt, request, repository)?,
+        are_all: tops.is_empty(),
+        tops: own_tops_of(alloc, selected)?,
+    };
+    let untracked = parts.search();
     let objects = LazyObjects { rt, repository };
     let attributes = AskedFor {
         worktree,
@@ -272,44 +230,52 @@ where
             objects: &objects,
         },
     };
-    let parts = UntrackedParts {
-        mode: request.untracked,
-        ignored: request.ignored,
-        folders: DiskFolders {
-            rt,
-            repository,
-            worktree,
-            top: found.front,
-        },
-        outer: outer_files_for(rt, request, repository)?,
-        are_all: tops.is_empty(),
-        tops: own_tops_of(alloc, selected)?,
-    };
-    let untracked = parts.search();
     let asked = Asked {
         settings,
         worktree,
-        submodules,
+        submodules: SubmoduleHeads::new(rt, top, &ignored),
         paths: Paths {
             tops: &tops,
-            left_out: &exceptions.left_out,
+            left_out: &left_out,
         },
         attributes,
-        beside: found.head,
+        beside: head,
+    };
+    let begun = if request.refresh {
+        Some(time_of_lock(rt, repository.index.as_str()))
+    } else {
+        None
     };
     let nested = Nested {
-        top: repository.top.as_str(),
+        top,
         tops: &staged_tops,
         untracked: &untracked,
-        intended: &exceptions.intended,
+        intended: &intended,
         wanted: Wanted {
             all: !selected.is_empty(),
             json: request.json,
-            left_out: &exceptions.left_out,
+            left_out: &left_out,
             untracked: &unknown,
         },
     };
-    Ok(compare(rt, request, read, nested, asked, output, faults))
+    let compared = compare(rt, request, read, nested, asked, output, faults);
+    if compared.status == FAILED {
+        return Ok(FAILED);
+    }
+    note_unread(request, repository, &ignored, faults);
+    if !illformed.is_empty() {
+        return Ok(print_illformed(alloc, &illformed, faults));
+    }
+    let Some(begun) = begun else {
+        return Ok(compared.status);
+    };
+    let refresh = Refresh {
+        repository,
+        old: file,
+        is_remade,
+        begun,
+    };
+    refresh.end(rt, compared)
 }
 
 /// Reads the index file for a request. The status compares its checksum, unless something that depends on the index may be
