@@ -84,7 +84,11 @@ where
         path.extend_from_slice(NAME)?;
         let path = BStr::new(path.as_slice());
         if is_there {
-            return read_file(self.rt.alloc(), self.worktree, path);
+            match self.file_at(path)? {
+                Found::Bytes(bytes) => return Ok(Some(bytes)),
+                Found::Folder => return Ok(None),
+                Found::Unread => {}
+            }
         }
         match index.entries_at(path) {
             [entry, ..] if entry.flags.contains(Flags::SKIP_WORKTREE) => {
@@ -145,32 +149,45 @@ fn push_names(alloc: Global, part: &[u8], names: &mut Vec<Vec<u8>>) -> Result<()
     Ok(())
 }
 
-/// Returns the bytes of the regular file at a path. None if there is none, or it is too large: a link isn't followed, as in git.
-fn read_file<W: Worktree>(
-    alloc: Global,
-    worktree: &W,
-    path: BStr<'_>,
-) -> Result<Option<Vec<u8>>, Fault> {
-    match worktree.lstat(path) {
-        Ok(node) if node.kind == NodeKind::File && node.len < IGNORE_LIMIT as u64 => {}
-        Err(Fault::Memory) => return Err(Fault::Memory),
-        _ => return Ok(None),
-    }
-    let mut bytes = Vec::new(alloc);
-    let mut file = match worktree.open(path) {
-        Ok(file) => file,
-        Err(fault) => return none_unless_memory(fault),
-    };
-    match read_all(&mut file, &mut bytes) {
-        Ok(()) => Ok(Some(bytes)),
-        Err(fault) => none_unless_memory(fault),
+/// The node at the path of an ignore file.
+#[derive(Drop)]
+enum Found {
+    /// A file with these bytes.
+    Bytes(Vec<u8>),
+    /// A folder.
+    Folder,
+    /// A link, which isn't followed, or a file that can't be read.
+    Unread,
+}
+
+impl<R: AllocGlobal, W: Worktree> DiskFolders<'_, R, W> {
+    /// Returns the node at the path of an ignore file.
+    ///
+    /// # Errors
+    /// Out of memory.
+    fn file_at(&self, path: BStr<'_>) -> Result<Found, Fault> {
+        match self.worktree.lstat(path) {
+            Ok(node) if node.kind == NodeKind::Directory => return Ok(Found::Folder),
+            Ok(node) if node.kind == NodeKind::File && node.len < IGNORE_LIMIT as u64 => {}
+            Err(Fault::Memory) => return Err(Fault::Memory),
+            _ => return Ok(Found::Unread),
+        }
+        let mut bytes = Vec::new(self.rt.alloc());
+        let mut file = match self.worktree.open(path) {
+            Ok(file) => file,
+            Err(fault) => return unread(fault),
+        };
+        match read_all(&mut file, &mut bytes) {
+            Ok(()) => Ok(Found::Bytes(bytes)),
+            Err(fault) => unread(fault),
+        }
     }
 }
 
-/// Returns that no file can be read, unless memory ran out.
-fn none_unless_memory(fault: Fault) -> Result<Option<Vec<u8>>, Fault> {
+/// Returns that a file can't be read, unless memory ran out.
+fn unread(fault: Fault) -> Result<Found, Fault> {
     match fault {
         Fault::Memory => Err(fault),
-        _ => Ok(None),
+        _ => Ok(Found::Unread),
     }
 }

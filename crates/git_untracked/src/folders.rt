@@ -71,8 +71,8 @@ pub enum FolderFault {
         /// The fault.
         fault: Fault,
     },
-    /// More than 2,048 folders are within each other.
-    #[error("more than 2,048 folders are within each other")]
+    /// More than 1,024 folders are within each other.
+    #[error("more than 1,024 folders are within each other")]
     TooDeep,
     /// An allocation failed.
     #[error("Out of memory")]

@@ -26,7 +26,7 @@ pub trait FindUntracked {
     /// Returns the lines of the nodes, each once, in the order of their bytes.
     ///
     /// # Errors
-    /// The worktree refuses a question, more than 2,048 of its folders are within each other, or out of memory.
+    /// The worktree refuses a question, more than 1,024 of its folders are within each other, or out of memory.
     fn find_untracked(&self, alloc: Global, index: &State) -> Result<Lines, FolderFault>
         ensures { IfOk result (λ lines. may_find self.now (index_of index.now) (lines_view lines)) };
 }

@@ -16,8 +16,8 @@ use git_patterns::text::is_word;
 use status_base::worktree::NodeKind;
 use std::alloc::AllocError;
 
-/// The most folders within each other. Systems refuse the paths of more, which have 4,096 bytes.
-pub(crate) const MOST_FOLDERS: usize = 2048;
+/// The most folders within each other, so that the calls for them fit on the stack of a thread, which has 8 MiB.
+pub(crate) const MOST_FOLDERS: usize = 1024;
 
 /// How a folder is walked.
 #[derive(Clone, Copy)]
