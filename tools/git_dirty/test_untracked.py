@@ -14,9 +14,9 @@ import threading
 from git_dirty.case import Dirty
 from support.repositories import make_git_folder, write
 
-# How many names a folder has, and how many folders are within each other: with two bytes for each, git can't call for a path in
-# the last ones, which has more than 4,095.
-NAMES, DEEP, LESS_DEEP = 100_000, 2100, 1900
+# How many names a folder has, how many folders are within each other, and how long their names are if git can't call for a path
+# in the last ones, which has more than 4,095 bytes.
+NAMES, DEEP, TOO_DEEP, LONG, LONG_NAME = 100_000, 1000, 1100, 50, "n" * 100
 # The paths that change in a run, and how.
 CHANGING = ["n", "m", "d/n", "n/o", "n/o/p", "n/.gitignore", "u"]
 CHANGES = ["file", "file", "folder", "folder", "link", "repository", "move", "move", "file away", "all away"]
@@ -59,11 +59,11 @@ class Untracked(Dirty):
         self.git("add", "--", *(f"n/{number}" for number in range(0, NAMES, NAMES // 4) if number % 10 != 7))
         self.assertEqual(self.assert_lists("-uall", "--ignored", "--worktree").count(b"\n"), NAMES - 4)
 
-    def make_deep(self, count):
-        """Makes so many folders within each other, with a file in the last one."""
-        self.addCleanup(subprocess.run, ["rm", "-rf", self.path("n")], check=True)
+    def make_deep(self, count, name="n"):
+        """Makes so many folders of this name within each other, with a file in the last one."""
+        self.addCleanup(subprocess.run, ["rm", "-rf", self.path(name)], check=True)
         folder = os.open(self.top, os.O_RDONLY)
-        for name in ["n"] * count:
+        for _ in range(count):
             os.mkdir(name, dir_fd=folder)
             inner = os.open(name, os.O_RDONLY, dir_fd=folder)
             os.close(folder)
@@ -72,22 +72,31 @@ class Untracked(Dirty):
         os.close(folder)
 
     def test_folders_within_each_other(self):
-        self.make_deep(LESS_DEEP)
+        self.make_deep(DEEP)
         self.assertEqual(self.assert_lists("-u"), b"?? n/\n")
-        self.assertEqual(self.assert_lists("-uall"), b"?? " + b"n/" * LESS_DEEP + b"f\n")
+        self.assertEqual(self.assert_lists("-uall"), b"?? " + b"n/" * DEEP + b"f\n")
         self.exclude("n\n")
         self.assertEqual(self.assert_lists("-u", "--ignored"), b"!! n/\n")
-        self.assertEqual(self.assert_lists("-uall", "--ignored"), b"!! " + b"n/" * LESS_DEEP + b"f\n")
+        self.assertEqual(self.assert_lists("-uall", "--ignored"), b"!! " + b"n/" * DEEP + b"f\n")
+
+    def assert_all_fail(self, name, words):
+        """Asserts that each form fails with these words, and none if the folder of this name is ignored."""
+        for form in FORMS:
+            with self.subTest(form):
+                self.assert_fails(self.ran(*form), words)
+        self.exclude(f"{name}\n")
+        for form in ([], ["-uno"], ["-u"], ["-uall"]):
+            self.assert_ends(self.ran(*form), b"")
+
+    def test_too_many_folders_within_each_other_are_a_failure(self):
+        # Git lists them.
+        self.make_deep(TOO_DEEP)
+        self.assert_all_fail("n", "more than 1,024 folders")
 
     def test_a_folder_whose_path_is_too_long_is_a_failure(self):
-        self.make_deep(DEEP)
-        for words in FORMS:
-            with self.subTest(words):
-                # Git passes over it with a warning.
-                self.assert_fails(self.ran(*words), r"n/n/n/n")
-        self.exclude("n\n")
-        for words in ([], ["-uno"], ["-u"], ["-uall"]):
-            self.assert_ends(self.ran(*words), b"")
+        # Git passes over it with a warning.
+        self.make_deep(LONG, LONG_NAME)
+        self.assert_all_fail(LONG_NAME, f"{LONG_NAME}/{LONG_NAME}")
 
     # Folders that can't be read.
 
