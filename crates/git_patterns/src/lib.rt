@@ -17,5 +17,6 @@ pub mod text;
 mod wildcards;
 
 pub use pattern::Pattern;
+pub use piece::literal_len;
 pub use row::MOST_PIECES;
 pub use wildcards::{Style, Wildcards};

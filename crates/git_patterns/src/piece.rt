@@ -120,7 +120,7 @@ fn special_at(pattern: &[u8]) -> Option<usize>
 }
 
 /// Returns how many bytes of a pattern come before the first one with a meaning of its own.
-fn literal_len(pattern: &[u8]) -> usize
+pub fn literal_len(pattern: &[u8]) -> usize
     ensures { result ≡ literal_len pattern.now }
 {
     match special_at(pattern) {
