@@ -2,8 +2,9 @@
 
 use crate::asked::Asked;
 use crate::lines::Quoted;
-use crate::paths::{Paths, Top};
+use crate::paths::Paths;
 use bstr::BStr;
+use git_pathspecs::Element;
 use status_base::worktree::{MemoryObjects, NoFilter, NoLister, NoSubmodules, Pathspec, Worktree};
 use status_call::index_as_worktree::traits::FastEq;
 use status_call::index_as_worktree::{
@@ -89,14 +90,11 @@ where
         path: BStr<'_>,
     ) -> Option<Error> {
         let alloc = rt.alloc();
-        let top = Top {
-            path: path.as_bytes(),
-            is_folder: false,
-        };
+        let element = Element::at(path.as_bytes());
         // A conversion of line ends fails only if reading does, so none is made here.
         let context = Context {
             pathspec: Paths {
-                tops: &[top],
+                elements: &[element],
                 left_out: &State::new(alloc, index.timestamp()),
             },
             filter: NoFilter,
