@@ -16,7 +16,7 @@ use git_patterns::text::is_word;
 use status_base::worktree::NodeKind;
 use std::alloc::AllocError;
 
-/// The most folders within each other, so that the calls for them fit on the stack of a thread, which has 8 MiB.
+/// The most folders within each other, so that the calls for them fit on the stack of a thread.
 pub(crate) const MOST_FOLDERS: usize = 1024;
 
 /// How a folder is walked.
