@@ -1,5 +1,5 @@
 -- The request of a walk for untracked files, and what a worktree may return to it.
-use Rattle.std.specs.Prelude.{◌≡◌, ◌⊎◌, ◌==◌, ◌&&◌, ◌||◌, not, ℕ, Bool, true, List, [], ◌++◌, filter, codes, Option, Some, None}
+use Rattle.std.specs.Prelude.{◌≡◌, ◌⊎◌, ◌==◌, ◌&&◌, ◌||◌, not, ℕ, Bool, true, false, List, [], ◌++◌, filter, codes, Option, Some, None}
 use Rattle.std.specs.List.{list_any}
 use Rattle.std.specs.Str.{bytes_eq}
 use Rattle.status_index.specs.Entries.{IndexEntry, stage_of}
@@ -52,11 +52,12 @@ settles wanted e = is_submodule e.mode || (not wanted && stage_of e == 0)
 abbrev pub is_settled : Bool → List IndexEntry → List ℕ → Bool
 is_settled wanted es path = list_any (settles wanted) (filter (is_at path) es)
 
--- No line is at a path or below it: the path is settled, or nothing there is selected. Nodes below are wanted if all untracked files or
--- ignored nodes are, or if a path below is selected by itself.
+-- No line is at a path or below it: the path is settled, or it is selected neither as a file's nor as a folder's, and no
+-- path below it is selected by itself. Nodes below are wanted if all untracked files or ignored nodes are, or if a path
+-- below is selected by itself.
 abbrev pub is_passed_over : Question → List ℕ → Bool
 is_passed_over q path =
-    is_settled (q.all || (q.ignored || q.leads path)) q.index path || not (q.selects path true || q.leads path)
+    is_settled (q.all || (q.ignored || q.leads path)) q.index path || not (q.selects path false || (q.selects path true || q.leads path))
 
 abbrev pub file_rules : List ℕ → Option (List ℕ) → List Rule
 file_rules folder None = []

@@ -23,7 +23,7 @@ pub enum Way {
 
 /// Takes the questions of a walk. A folder's path ends in a slash, except that of the worktree's top, which is empty.
 pub trait Ask {
-    ghost use Rattle.std.specs.Prelude.{◌≡◌, ◌&&◌, ◌||◌, ◌++◌, ◌<◌, not, IfOk, OnOk, List, ℕ, Option, length, option_map};
+    ghost use Rattle.std.specs.Prelude.{◌≡◌, ◌&&◌, ◌||◌, ◌++◌, ◌<◌, not, true, IfOk, OnOk, List, ℕ, Option, length, option_map};
     ghost use Rattle.git_ignore.specs.Views.{rules_view};
     ghost use Rattle.status_walk.specs.Untracked.{is_tracked};
     ghost use Rattle.git_untracked.specs.Lines.{and_lines, lines_view, paths_of};
@@ -88,6 +88,10 @@ pub trait Ask {
     /// Returns whether an entry has this path.
     fn has_entry(&self, path: &[u8]) -> bool
         ensures { result ≡ is_tracked (question self.now).index path.now };
+
+    /// Returns whether a folder's path is selected.
+    fn selects_folder(&self, path: &[u8]) -> bool
+        ensures { result ≡ (question self.now).selects path.now true };
 
     /// Returns whether a path below this one is selected by itself.
     fn leads(&self, path: &[u8]) -> bool

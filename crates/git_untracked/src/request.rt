@@ -105,7 +105,7 @@ impl<F: Folders, P: Selection> Ask for Request<'_, F, P> {
         let path = BStr::new(path);
         let leads = self.paths.leads(path);
         is_settled(self.index, path, self.all || self.ignored || leads)
-            || !(self.paths.selects(path, true) || leads)
+            || !(self.paths.selects(path, false) || self.paths.selects(path, true) || leads)
     }
 
     fn kind_at(&self, path: &[u8]) -> Result<Option<NodeKind>, FolderFault> {
@@ -130,6 +130,10 @@ impl<F: Folders, P: Selection> Ask for Request<'_, F, P> {
 
     fn has_entry(&self, path: &[u8]) -> bool {
         is_tracked(self.index, BStr::new(path))
+    }
+
+    fn selects_folder(&self, path: &[u8]) -> bool {
+        self.paths.selects(BStr::new(path), true)
     }
 
     fn leads(&self, path: &[u8]) -> bool {
