@@ -19,10 +19,14 @@ file_lines q is_ignored path = if is_tracked q.index path || not (q.selects path
 abbrev pub is_ignored : Within → List ℕ → Bool → Bool
 is_ignored w path is_folder = w.excluded || is_matched w.rules path is_folder
 
--- A folder isn't entered if it is ignored and ignored nodes have no lines, or if it isn't selected and no path below it is
--- selected by itself.
+-- A folder isn't entered if it is ignored and ignored nodes have no lines, or if it isn't ignored, has no entry below it, isn't selected, and no
+-- path below it is selected by itself.
+abbrev pub is_unwanted : Question → Bool → Bool → List ℕ → Bool
+is_unwanted q excluded leads path =
+    if excluded then not q.ignored else not (q.selects path true || (leads || has_below q.index (path ++ 47 ∷ [])))
+
 abbrev pub is_left_out : Question → Within → List ℕ → Bool
-is_left_out q w path = (is_ignored w path true && not q.ignored) || not (q.selects path true || q.leads path)
+is_left_out q w path = is_unwanted q (is_ignored w path true) (q.leads path) path
 
 mutual
   -- The lines of what is in a folder.

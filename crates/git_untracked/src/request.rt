@@ -136,6 +136,12 @@ impl<F: Folders, P: Selection> Ask for Request<'_, F, P> {
         self.paths.selects(BStr::new(path), true)
     }
 
+    fn has_entry_below(&self, path: &[u8]) -> Result<bool, FolderFault> {
+        let mut folder = Vec::from_slice(self.alloc, path)?;
+        folder.extend_from_slice(b"/")?;
+        Ok(has_below(self.index, &folder))
+    }
+
     fn leads(&self, path: &[u8]) -> bool {
         self.paths.leads(BStr::new(path))
     }

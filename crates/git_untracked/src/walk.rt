@@ -6,7 +6,7 @@ ghost use Rattle.git_ignore.specs.Views.{rules_view};
 ghost use Rattle.git_untracked.specs.Lines.{lines_view, paths_of};
 ghost use Rattle.git_untracked.specs.Requests.{IsAdded, within_view};
 ghost use Rattle.git_untracked.specs.Questions.{HasRules, is_special};
-ghost use Rattle.git_untracked.specs.Walks.{AreNodes, IsFolder, IsNamed, IsNode, IsSubfolder, is_ignored};
+ghost use Rattle.git_untracked.specs.Walks.{AreNodes, IsFolder, IsNamed, IsNode, IsSubfolder, is_ignored, is_unwanted};
 
 use crate::ask::{Ask, Way};
 use crate::folders::FolderFault;
@@ -151,7 +151,7 @@ fn walk_node<Q: Ask>(
         NodeKind::Directory => {
             let is_excluded = excludes(ask, within, rules, path, true)?;
             let leads = ask.leads(path);
-            if leaves_out(ask, is_excluded, leads, path) {
+            if leaves_out(ask, is_excluded, leads, path)? {
                 return Ok(());
             }
             let has_entry = ask.has_entry(path);
@@ -235,10 +235,24 @@ fn excludes<Q: Ask>(
 }
 
 /// Returns whether a folder isn't entered, which is ignored or not. `leads` is whether a path below it is selected by itself.
-fn leaves_out<Q: Ask>(ask: &Q, is_excluded: bool, leads: bool, path: &[u8]) -> bool
-    ensures { result ≡ ((is_excluded && not (Q.question ask.now).ignored) || not ((Q.question ask.now).selects path.now true || leads)) }
+///
+/// # Errors
+/// Out of memory.
+fn leaves_out<Q: Ask>(
+    ask: &Q,
+    is_excluded: bool,
+    leads: bool,
+    path: &[u8],
+) -> Result<bool, FolderFault>
+    ensures { IfOk result (λ it. it ≡ is_unwanted (Q.question ask.now) is_excluded leads path.now) }
 {
-    (is_excluded && !ask.wants_ignored()) || !(ask.selects_folder(path) || leads)
+    if is_excluded {
+        Ok(!ask.wants_ignored())
+    } else if ask.selects_folder(path) || leads {
+        Ok(false)
+    } else {
+        Ok(!ask.has_entry_below(path)?)
+    }
 }
 
 /// Returns whether the first line is enough of a folder whose line replaces those of what is in it.
