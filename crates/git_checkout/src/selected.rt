@@ -7,7 +7,7 @@ use git_repository::{Repository, is_set};
 use std::alloc::{AllocError, Global};
 use std::rt::Env;
 
-/// What a word of PATHS selects.
+/// A word of PATHS, and the element that it stands for.
 #[derive(Drop)]
 pub(crate) struct Selected<'a> {
     /// The word that was passed.
@@ -79,7 +79,7 @@ pub(crate) fn selected_by<'a, R: AllocGlobal + Env>(
     Ok(selected)
 }
 
-/// The magic that the environment gives to all words.
+/// The magic that all words have by the environment.
 #[derive(Clone, Copy)]
 struct Usual {
     /// `GIT_LITERAL_PATHSPECS`: no word has magic.

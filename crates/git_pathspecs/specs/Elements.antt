@@ -1,4 +1,4 @@
--- What an element of a pathspec chooses.
+-- The nodes that an element of a pathspec chooses.
 use Rattle.std.specs.Prelude.{◌≡◌, ℕ, ◌-◌, ◌&&◌, ◌||◌, not, nat_le, nat_lt, Bool, true, false, List, [], ◌∷◌, length, take, drop, Option, Some, None, option_map, is_some, if◌then◌else◌}
 use Rattle.git_patterns.specs.Patterns.{literal_len}
 use Rattle.git_patterns.specs.Styles.{styled_parts_of}
@@ -22,10 +22,15 @@ abbrev pub ends_so : Bool → Option (List ℕ) → Bool
 ends_so may_end None = false
 ends_so may_end (Some rest) = is_end may_end rest
 
+-- An element takes no name that is shorter than this.
+abbrev pub is_long_enough : Element → List ℕ → Bool
+is_long_enough e name = nat_le e.least (length name)
+
 -- A name is the element's path or below it. With a slash at its end only a folder is chosen, or a submodule. The empty text chooses everything.
 abbrev pub is_within : Element → Bool → List ℕ → Bool
 is_within e is_dir name =
-    is_empty e.text.now || ends_so (is_dir || not (ends_in_slash e.text.now)) (after_front e.cased name (path_of e.text.now))
+    is_empty e.text.now
+    || (is_long_enough e name && ends_so (is_dir || not (ends_in_slash e.text.now)) (after_front e.cased name (path_of e.text.now)))
 
 -- Parts match what is left of a name. More than 255 parts match nothing: a request with so many is refused.
 abbrev pub is_rest : Option (List Part) → Option (List ℕ) → Bool
@@ -43,7 +48,7 @@ chooses e is_dir name = is_within e is_dir name || has_match e name
 
 -- The element's path is below this folder, whose name ends in a slash.
 abbrev pub is_below : Element → List ℕ → Bool
-is_below e folder = is_some (after_front e.cased (path_of e.text.now) folder)
+is_below e folder = is_long_enough e folder && is_some (after_front e.cased (path_of e.text.now) folder)
 
 -- A path below this folder may match the element's wildcards: the folder's name begins with the front. As in git, no more is asked.
 abbrev pub may_match_below : Element → List ℕ → Bool
@@ -91,4 +96,6 @@ pub record IsElement (magic : Magic) (kept : ℕ) (text : List ℕ) (e : Element
   pub front_is : e.front.now ≡ take (front_len magic kept text) text
   pub parts_are : option_map wildcard_parts e.wildcards ≡ parts_after (style_of magic) (drop (front_len magic kept text) text)
   pub cased_is : e.cased ≡ (if magic.icase then kept else length text)
+  -- As in git, if case doesn't count, then a name that is taken has to be as long as the working folder's path.
+  pub least_is : e.least ≡ (if magic.icase then kept else 0)
   pub excludes_is : e.excludes ≡ magic.excludes

@@ -1,4 +1,4 @@
--- What the elements of a pathspec select together.
+-- The nodes that the elements of a pathspec select together.
 use Rattle.std.specs.Prelude.{ℕ, ◌&&◌, ◌||◌, not, Bool, true, List, [], ◌∷◌, if◌then◌else◌}
 use Rattle.std.specs.List.{list_any}
 use Rattle.git_pathspecs.specs.declared.element.Element.{Element}

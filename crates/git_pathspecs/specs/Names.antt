@@ -13,12 +13,12 @@ abbrev pub first_of : List ℕ → Option (ℕ × List ℕ)
 first_of [] = None
 first_of (b ∷ rest) = Some (b, rest)
 
--- Two bytes are the same. Where case doesn't count, so are both cases of an ASCII letter.
+-- Two bytes are the same. If no byte is left in which case counts, so are both cases of an ASCII letter.
 abbrev pub is_same : ℕ → ℕ → ℕ → Bool
 is_same zero a b = eq_ignore_ascii_case a b
 is_same (suc cased) a b = a == b
 
--- What comes after a front in a text, or None if the text doesn't begin with the front. Case counts in the first bytes, so many.
+-- The rest of a text after a front, or None if the text doesn't begin with the front. Case counts in the first bytes, so many.
 abbrev pub after_front : ℕ → List ℕ → List ℕ → Option (List ℕ)
 after_front cased text [] = Some text
 after_front cased [] (f ∷ front) = None

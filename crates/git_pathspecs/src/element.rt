@@ -1,7 +1,7 @@
-//! What an element of a pathspec chooses.
+//! The nodes that an element of a pathspec chooses.
 
 ghost use Rattle.std.specs.Prelude.{◌≡◌, ◌||◌, IfOk, drop, take};
-ghost use Rattle.git_pathspecs.specs.Elements.{IsElement, chooses, front_len, has_match, is_below, is_exact, is_named, is_pattern, is_within, leads_into, may_match_below, path_of, prefix_of};
+ghost use Rattle.git_pathspecs.specs.Elements.{IsElement, chooses, front_len, has_match, is_below, is_exact, is_long_enough, is_named, is_pattern, is_within, leads_into, may_match_below, path_of, prefix_of};
 ghost use Rattle.git_pathspecs.specs.Names.{name_of};
 
 use crate::magic::Magic;
@@ -17,10 +17,12 @@ pub struct Element<'a> {
     text: &'a [u8],
     /// The bytes of the text that match themselves alone.
     front: &'a [u8],
-    /// What comes after them. None if there is nothing, or no path matches it.
+    /// The wildcards after them. None if there are none, or no path matches them.
     wildcards: Option<Wildcards>,
     /// In how many bytes case counts.
     cased: usize,
+    /// The length of the shortest name that the element takes.
+    least: usize,
     /// Whether what the element chooses isn't selected.
     excludes: bool,
 }
@@ -54,6 +56,7 @@ impl<'a> Element<'a> {
             front,
             wildcards,
             cased: if magic.icase { kept } else { text.len() },
+            least: if magic.icase { kept } else { 0 },
             excludes: magic.excludes,
         })
     }
@@ -65,6 +68,7 @@ impl<'a> Element<'a> {
             front: path,
             wildcards: None,
             cased: path.len(),
+            least: 0,
             excludes: false,
         }
     }
@@ -90,10 +94,20 @@ impl<'a> Element<'a> {
         if self.text.is_empty() {
             return true;
         }
+        if !self.is_long_enough(name) {
+            return false;
+        }
         match name.after_front(self.cased, Name::of(path_of(self.text))) {
             Some(rest) => rest.is_end(is_dir || !ends_in_slash(self.text)),
             None => false,
         }
+    }
+
+    /// Returns whether a name isn't too short for the element.
+    fn is_long_enough(&self, name: Name<'_>) -> bool
+        ensures { result ≡ is_long_enough self.now (name_of name.entry) }
+    {
+        self.least <= name.len()
     }
 
     /// Returns whether a name begins with the element's front, and its wildcards match the rest.
@@ -120,9 +134,10 @@ impl<'a> Element<'a> {
     fn is_below(&self, folder: Name<'_>) -> bool
         ensures { result ≡ is_below self.now (name_of folder.entry) }
     {
-        Name::of(path_of(self.text))
-            .after_front(self.cased, folder)
-            .is_some()
+        self.is_long_enough(folder)
+            && Name::of(path_of(self.text))
+                .after_front(self.cased, folder)
+                .is_some()
     }
 
     /// Returns whether a path below a folder may match the element's wildcards.

@@ -1,4 +1,4 @@
-//! What the elements of a pathspec select together.
+//! The nodes that the elements of a pathspec select together.
 
 ghost use Rattle.std.specs.Prelude.{◌≡◌, ◌&&◌, not};
 ghost use Rattle.std.specs.List.{list_any};

@@ -1,6 +1,6 @@
 //! Names of nodes, and how they begin.
 
-ghost use Rattle.std.specs.Prelude.{◌≡◌, ◌∷◌, ◌++◌, [], option_map};
+ghost use Rattle.std.specs.Prelude.{◌≡◌, ◌∷◌, ◌++◌, [], length, option_map};
 ghost use Rattle.git_pathspecs.specs.Names.{after_front, first_of, has_one, is_end, is_same, name_of};
 
 /// The name of a node: its path from the worktree's top, and a slash after it or not.
@@ -33,6 +33,17 @@ impl<'a> Name<'a> {
         }
     }
 
+    /// Returns the number of bytes.
+    pub(crate) fn len(self) -> usize
+        ensures { result ≡ length (name_of self.entry) }
+    {
+        if self.has_slash {
+            self.path.len() + 1
+        } else {
+            self.path.len()
+        }
+    }
+
     /// Returns the first byte, and the rest. None if there is none.
     fn first(self) -> Option<(u8, Name<'a>)>
         ensures { option_map (λ x. (x.0, name_of x.1)) result ≡ first_of (name_of self.entry) }
@@ -50,7 +61,7 @@ impl<'a> Name<'a> {
         }
     }
 
-    /// Returns what comes after a front. None if the name doesn't begin with it. Case counts in the first bytes, so many.
+    /// Returns the rest after a front. None if the name doesn't begin with it. Case counts in the first bytes, so many.
     pub(crate) fn after_front(self, mut cased: usize, mut front: Name<'_>) -> Option<Name<'a>>
         ensures { option_map name_of result ≡ after_front cased (name_of self.entry) (name_of front.entry) }
     {

@@ -36,7 +36,7 @@ in_case folds part = if folds then folded part else part
 abbrev pub styled : Style → Part → Part
 styled style part = in_case style.folds_case (if style.parts_names then part else crossing part)
 
--- `**` has a meaning of its own only where a slash parts names.
+-- `**` has a meaning of its own only if a slash parts names.
 abbrev pub styled_step : Style → Bool × List ℕ → Option (Part × (Bool × List ℕ))
 styled_step style s = option_map (λ x. (styled style x.0, (style.parts_names && begins_name x.0, x.1))) (part_at s.0 s.1)
 

@@ -62,7 +62,7 @@ fn put_byte(pieces: &[Piece], byte: u8, is_end: bool, row: &mut [bool]) -> Value
 }
 
 /// Returns whether a path, with a slash after it if it is a folder's, matches pieces, by a pass over them for each byte from the
-/// end on. The row has a place for each piece.
+/// end on. The row is as long as the pieces.
 pub(crate) fn is_match_in(pieces: &[Piece], path: &[u8], is_folder: bool, row: &mut [bool]) -> bool
     requires { length row.old ≡ length pieces.now }
     ensures { result ≡ is_match (map part_of pieces.now) (named path.now is_folder) }
