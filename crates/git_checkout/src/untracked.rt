@@ -1,5 +1,8 @@
 //! The search for the untracked files that a request asks for.
 
+ghost use Rattle.std.specs.Prelude.{◌≡◌, IfSome, is_some};
+ghost use Rattle.git_checkout.specs.Searches.{is_asked, is_each};
+
 use crate::folders::DiskFolders;
 use crate::refused::Refused;
 use crate::request::{Request, UntrackedFiles};
@@ -24,7 +27,14 @@ pub(crate) struct UntrackedParts<'x, R, W> {
 
 impl<'x, R, W> UntrackedParts<'x, R, W> {
     /// Returns the search. None if no untracked files are asked for.
-    pub(crate) fn search(&self) -> Option<Untracked<'_, DiskFolders<'x, R, W>, Nodes<'_>>> {
+    pub(crate) fn search(&self) -> Option<Untracked<'_, DiskFolders<'x, R, W>, Nodes<'_>>>
+        ensures asked { is_some result ≡ is_asked self.now.mode }
+        ensures folders { IfSome result (λ search. search.folders.now ≡ self.now.folders) }
+        ensures paths { IfSome result (λ search. search.paths.elements.now ≡ self.now.elements.items) }
+        ensures outer { IfSome result (λ search. search.outer.now ≡ self.now.outer.items) }
+        ensures all { IfSome result (λ search. search.all ≡ is_each self.now.mode) }
+        ensures ignored { IfSome result (λ search. search.ignored ≡ self.now.ignored) }
+    {
         if self.mode == UntrackedFiles::No {
             return None;
         }

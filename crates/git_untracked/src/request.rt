@@ -10,7 +10,7 @@ ghost use Rattle.git_untracked.specs.Questions.{has_below, is_settled, settles};
 ghost use Rattle.git_untracked.specs.Requests.{Thins};
 
 use crate::ask::{Ask, Way};
-use crate::folders::{FolderFault, Folders};
+use crate::folders::{FolderFault, Folders, IGNORE_FILE};
 use crate::lines::Lines;
 use crate::selection::Selection;
 use bstr::BStr;
@@ -22,9 +22,6 @@ use status_walk::untracked::is_tracked;
 use std::alloc::{AllocError, Global};
 use std::cmp::Ordering;
 use std::ops::Range;
-
-/// The name of ignore files.
-const IGNORE_FILE: &[u8] = b".gitignore";
 
 /// The request of a walk: a worktree, the index that it is compared with, and which lines are wanted.
 #[derive(Drop)]
@@ -80,7 +77,7 @@ impl<F: Folders, P: Selection> Ask for Request<'_, F, P> {
         {
             Ok(Some(bytes)) => Ok(rules.read(self.alloc, folder, &bytes)?),
             Ok(None) => Ok(()),
-            Err(fault) => Err(FolderFault::at(self.alloc, folder, fault)),
+            Err(fault) => Err(FolderFault::of_ignore_file(self.alloc, folder, fault)),
         }
     }
 
