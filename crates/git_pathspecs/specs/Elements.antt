@@ -75,6 +75,10 @@ leads_into e folder = not (chooses e true folder) && (is_below e folder || may_m
 abbrev pub prefix_of : Element → List ℕ
 prefix_of e = take e.cased (if is_pattern e then e.front.now else path_of e.text.now)
 
+-- A node at a path, or one below it, may be chosen: the path begins with the front, or the front with the path.
+abbrev pub reaches_to : Element → List ℕ → Bool
+reaches_to e path = is_some (after_front e.cased path e.front.now) || is_some (after_front e.cased e.front.now path)
+
 -- ---- the element of a text
 
 -- How many bytes match themselves alone: all of a literal text, and otherwise those before the first wildcard, but at least those of the

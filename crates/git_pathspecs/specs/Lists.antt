@@ -2,7 +2,7 @@
 use Rattle.std.specs.Prelude.{ℕ, ◌&&◌, ◌||◌, not, Bool, true, List, [], ◌∷◌, if◌then◌else◌}
 use Rattle.std.specs.List.{list_any}
 use Rattle.git_pathspecs.specs.declared.element.Element.{Element}
-use Rattle.git_pathspecs.specs.Elements.{chooses, is_exact, leads_into, prefix_of}
+use Rattle.git_pathspecs.specs.Elements.{chooses, is_exact, leads_into, prefix_of, reaches_to}
 
 abbrev pub includes : Element → Bool
 includes e = not e.excludes
@@ -24,6 +24,10 @@ abbrev pub leads : List Element → List ℕ → Bool
 leads es folder =
     list_any (λ e. includes e && leads_into e folder) es
     && not (list_any (λ e. includes e && is_exact e folder) es || is_excluded es true folder)
+
+-- A node at a path, or one below it, may be selected.
+abbrev pub reaches : List Element → List ℕ → Bool
+reaches es path = not (list_any includes es) || list_any (λ e. includes e && reaches_to e path) es
 
 -- The bytes with which each selected path begins, if there is one element.
 abbrev pub common_prefix : List Element → List ℕ

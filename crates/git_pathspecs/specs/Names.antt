@@ -1,5 +1,5 @@
 -- Names of nodes, and how they begin.
-use Rattle.std.specs.Prelude.{ℕ, zero, suc, ◌-◌, ◌==◌, Bool, true, false, List, [], ◌∷◌, Option, Some, None, if◌then◌else◌}
+use Rattle.std.specs.Prelude.{ℕ, zero, suc, ◌-◌, ◌==◌, Bool, false, List, [], ◌∷◌, Option, Some, None, if◌then◌else◌}
 use Rattle.std.specs.Char.{eq_ignore_ascii_case}
 use Rattle.git_patterns.specs.Rows.{named}
 use Rattle.git_patterns.specs.Wildmatch.{is_empty}

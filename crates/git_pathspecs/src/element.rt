@@ -1,7 +1,7 @@
 //! The nodes that an element of a pathspec chooses.
 
 ghost use Rattle.std.specs.Prelude.{◌≡◌, ◌||◌, IfOk, drop, take};
-ghost use Rattle.git_pathspecs.specs.Elements.{IsElement, chooses, front_len, has_match, is_below, is_exact, is_long_enough, is_named, is_pattern, is_within, leads_into, may_match_below, path_of, prefix_of};
+ghost use Rattle.git_pathspecs.specs.Elements.{IsElement, chooses, front_len, has_match, is_below, is_exact, is_long_enough, is_named, is_pattern, is_within, leads_into, may_match_below, path_of, prefix_of, reaches_to};
 ghost use Rattle.git_pathspecs.specs.Names.{name_of};
 
 use crate::magic::Magic;
@@ -128,6 +128,15 @@ impl<'a> Element<'a> {
         ensures { result ≡ leads_into self.now (name_of folder.entry) }
     {
         !self.chooses(true, folder) && (self.is_below(folder) || self.may_match_below(folder))
+    }
+
+    /// Returns whether a node at a path, or one below it, may be chosen.
+    pub(crate) fn reaches_to(&self, path: Name<'_>) -> bool
+        ensures { result ≡ reaches_to self.now (name_of path.entry) }
+    {
+        let front = Name::of(self.front);
+        path.after_front(self.cased, front).is_some()
+            || front.after_front(self.cased, path).is_some()
     }
 
     /// Returns whether the element's path is below a folder.

@@ -10,6 +10,6 @@ pub mod magic;
 pub mod name;
 
 pub use element::Element;
-pub use list::{common_prefix, leads, selects};
+pub use list::{common_prefix, leads, reaches, selects};
 pub use magic::{Magic, MagicFault, magic_of};
 pub use name::Name;

@@ -2,8 +2,8 @@
 
 ghost use Rattle.std.specs.Prelude.{◌≡◌, ◌&&◌, not};
 ghost use Rattle.std.specs.List.{list_any};
-ghost use Rattle.git_pathspecs.specs.Elements.{chooses, is_exact, leads_into};
-ghost use Rattle.git_pathspecs.specs.Lists.{common_prefix, includes, is_chosen, is_excluded, leads, selects};
+ghost use Rattle.git_pathspecs.specs.Elements.{chooses, is_exact, leads_into, reaches_to};
+ghost use Rattle.git_pathspecs.specs.Lists.{common_prefix, includes, is_chosen, is_excluded, leads, reaches, selects};
 ghost use Rattle.git_pathspecs.specs.Names.{name_of};
 
 use crate::element::Element;
@@ -73,6 +73,22 @@ fn has_exact(elements: &[Element<'_>], folder: Name<'_>) -> bool
     elements
         .iter()
         .any(|it| !it.excludes() && it.is_exact(folder))
+}
+
+/// Returns whether a node at a path, or one below it, may be selected.
+pub fn reaches(elements: &[Element<'_>], path: Name<'_>) -> bool
+    ensures { result ≡ reaches elements.now (name_of path.entry) }
+{
+    !has_including(elements) || is_reached_by_any(elements, path)
+}
+
+/// Returns whether an element that doesn't exclude may choose a node at a path, or one below it.
+fn is_reached_by_any(elements: &[Element<'_>], path: Name<'_>) -> bool
+    ensures { result ≡ list_any (λ e. includes e && reaches_to e (name_of path.entry)) elements.now }
+{
+    elements
+        .iter()
+        .any(|it| !it.excludes() && it.reaches_to(path))
 }
 
 /// Returns the bytes with which each selected path begins, if there is one element.

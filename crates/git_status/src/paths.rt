@@ -6,7 +6,7 @@ ghost use Rattle.status_index.specs.States.{index_of};
 ghost use Rattle.git_status.specs.Paths.{is_left_out};
 
 use bstr::BStr;
-use git_pathspecs::{Element, Name, common_prefix, leads, selects};
+use git_pathspecs::{Element, Name, common_prefix, leads, reaches, selects};
 use git_untracked::Selection;
 use status_base::worktree::Pathspec;
 use status_index::State;
@@ -54,9 +54,11 @@ pub struct Nodes<'a> {
 impl Selection for Nodes<'_> {
     ghost use Rattle.std.specs.Prelude.{◌∷◌, ◌++◌, []};
     ghost use Rattle.git_patterns.specs.Rows.{named};
-    ghost use Rattle.git_pathspecs.specs.Lists.{leads, selects};
+    ghost use Rattle.git_pathspecs.specs.Lists.{leads, reaches, selects};
 
     ghost selects = { λ p path is_folder. selects p.elements.now is_folder (named path is_folder) };
+
+    ghost reaches = { λ p path. reaches p.elements.now path };
 
     ghost leads = { λ p path. leads p.elements.now (path ++ 47 ∷ []) };
 
@@ -66,6 +68,10 @@ impl Selection for Nodes<'_> {
             has_slash: is_folder,
         };
         selects(self.elements, is_folder, name)
+    }
+
+    fn reaches(&self, path: BStr<'_>) -> bool {
+        reaches(self.elements, Name::of(path.as_bytes()))
     }
 
     fn leads(&self, folder: BStr<'_>) -> bool {

@@ -46,6 +46,7 @@ impl<F: Folders, P: Selection> Ask for Request<'_, F, P> {
       all = r.all;
       ignored = r.ignored;
       selects = P.selects r.paths.now;
+      reaches = P.reaches r.paths.now;
       leads = P.leads r.paths.now;
       may_list = F.may_list r.folders.now;
       may_be = F.may_be r.folders.now;
@@ -101,8 +102,7 @@ impl<F: Folders, P: Selection> Ask for Request<'_, F, P> {
     fn passes_over(&self, path: &[u8]) -> bool {
         let path = BStr::new(path);
         let leads = self.paths.leads(path);
-        is_settled(self.index, path, self.all || self.ignored || leads)
-            || !(self.paths.selects(path, false) || self.paths.selects(path, true) || leads)
+        is_settled(self.index, path, self.all || self.ignored || leads) || !self.paths.reaches(path)
     }
 
     fn kind_at(&self, path: &[u8]) -> Result<Option<NodeKind>, FolderFault> {
