@@ -8,7 +8,7 @@ each list the program is run with each of these: both columns, --worktree, --sta
 and some of these runs have -z, -q or more threads. What is compared and printed is as in compare_dirty.py.
 
 A path without a pattern that selects nothing is a failure of the program. It has to name such a path, and the others are then
-run without it. Git has other rules for an ignored nested repository, so --ignored isn't compared where there is one.
+run without it. Git has other rules for an ignored nested repository, so with one --ignored isn't compared.
 """
 
 import os

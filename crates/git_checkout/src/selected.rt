@@ -7,7 +7,7 @@ use git_repository::{Repository, is_set};
 use std::alloc::{AllocError, Global};
 use std::rt::Env;
 
-/// A word of PATHS, and the element that it stands for.
+/// A word of PATHS, read as an element of a pathspec.
 #[derive(Drop)]
 pub(crate) struct Selected<'a> {
     /// The word that was passed.

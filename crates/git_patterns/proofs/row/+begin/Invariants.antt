@@ -1,6 +1,5 @@
 use Rattle.std.proofs.Common.{length}
 use Rattle.git_patterns.proofs.row.+begin.Given as goal
 
--- proposed from what the function passes where it calls itself
 abbrev pub decreases-begin : goal.decreases-begin
 decreases-begin l = length l.pieces.now
