@@ -25,9 +25,9 @@ leads es folder =
     list_any (λ e. includes e && leads_into e folder) es
     && not (list_any (λ e. includes e && is_exact e folder) es || is_excluded es true folder)
 
--- A node at a path, or one below it, may be selected.
+-- A node at a path, or one below it, may be selected. As in git, elements that exclude count too.
 abbrev pub reaches : List Element → List ℕ → Bool
-reaches es path = not (list_any includes es) || list_any (λ e. includes e && reaches_to e path) es
+reaches es path = not (list_any includes es) || list_any (λ e. reaches_to e path) es
 
 -- The bytes with which each selected path begins, if there is one element.
 abbrev pub common_prefix : List Element → List ℕ

@@ -82,13 +82,11 @@ pub fn reaches(elements: &[Element<'_>], path: Name<'_>) -> bool
     !has_including(elements) || is_reached_by_any(elements, path)
 }
 
-/// Returns whether an element that doesn't exclude may choose a node at a path, or one below it.
+/// Returns whether an element may choose a node at a path, or one below it.
 fn is_reached_by_any(elements: &[Element<'_>], path: Name<'_>) -> bool
-    ensures { result ≡ list_any (λ e. includes e && reaches_to e (name_of path.entry)) elements.now }
+    ensures { result ≡ list_any (λ e. reaches_to e (name_of path.entry)) elements.now }
 {
-    elements
-        .iter()
-        .any(|it| !it.excludes() && it.reaches_to(path))
+    elements.iter().any(|it| it.reaches_to(path))
 }
 
 /// Returns the bytes with which each selected path begins, if there is one element.

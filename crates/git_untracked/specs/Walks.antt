@@ -68,7 +68,7 @@ mutual
     with_entries : (rules : List Rule) (excluded leads tracked : Bool) (folder : List ℕ) (lines : Lines) → has_below q.index folder ≡ true
         → IsFolder q folder (record { rules = rules; excluded = excluded; one = false }) lines → IsSubfolder q rules excluded leads tracked folder lines
     repository : (rules : List Rule) (excluded leads tracked : Bool) (folder : List ℕ) → has_below q.index folder ≡ false → q.may_nest folder true
-        → IsSubfolder q rules excluded leads tracked folder (if leads then no_lines else own_line tracked folder excluded)
+        → IsSubfolder q rules excluded leads tracked folder (if leads && not excluded then no_lines else own_line tracked folder excluded)
     each : (rules : List Rule) (excluded leads tracked : Bool) (folder : List ℕ) (lines : Lines) → has_below q.index folder ≡ false → q.may_nest folder false
         → (q.all || (leads && not excluded)) ≡ true → IsFolder q folder (record { rules = rules; excluded = excluded; one = false }) lines
         → IsSubfolder q rules excluded leads tracked folder lines

@@ -152,7 +152,7 @@ impl<F: Folders, P: Selection> Ask for Request<'_, F, P> {
             return Ok(Way::Each);
         }
         match self.folders.is_repository(BStr::new(folder)) {
-            Ok(true) if leads => Ok(Way::Nothing),
+            Ok(true) if leads && !is_excluded => Ok(Way::Nothing),
             Ok(true) => Ok(Way::Line),
             Ok(false) if self.all || (leads && !is_excluded) => Ok(Way::Each),
             Ok(false) => Ok(Way::Whole),
