@@ -8,7 +8,7 @@ each list the program is run with each of these: both columns, --worktree, --sta
 and some of these runs have -z, -q or more threads. What is compared and printed is as in compare_dirty.py.
 
 A path without a pattern that selects nothing is a failure of the program. It has to name such a path, and the others are then
-run without it. Git has other rules for an ignored nested repository, so with one --ignored isn't compared.
+run without it.
 """
 
 import os
@@ -26,7 +26,7 @@ from support.programs import GIT_DIRTY
 from support.repositories import COLUMNS, status_words
 
 # What has to come in the runs, besides what is drawn.
-EACH = {"with --ignored", "a path that selects nothing", "lines of patterns", "no line of patterns"}
+EACH = {"with an ignored repository", "a path that selects nothing", "lines of patterns", "no line of patterns"}
 
 
 def refused(words):
@@ -55,12 +55,11 @@ class PathspecComparer(UntrackedComparer):
         yield from ((columns, [], []) for columns in COLUMNS)
         # With -uall a line that ends with a slash is that of a nested repository.
         printed = self.lines(self.top, "-uall", IGNORED, "-z")[0]
-        is_doubtful = any(line[:2] == b"!!" and line.endswith(b"/") for line in printed.split(b"\0"))
-        self.drawing.kinds.add("with an ignored repository" if is_doubtful else "with --ignored")
+        if any(line[:2] == b"!!" and line.endswith(b"/") for line in printed.split(b"\0")):
+            self.drawing.kinds.add("with an ignored repository")
         for gits, forms in MODES.items():
             yield [], self.drawing.random.choice(forms), [gits]
-            if not is_doubtful:
-                yield [], [*self.drawing.random.choice(forms), "--ignored"], [gits, IGNORED]
+            yield [], [*self.drawing.random.choice(forms), "--ignored"], [gits, IGNORED]
 
     def runs_of_list(self, asked, columns, ours, gits):
         """Yields the arguments of runs of a list, and what git prints for each."""
