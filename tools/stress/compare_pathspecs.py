@@ -8,7 +8,7 @@ each list the program is run with each of these: both columns, --worktree, --sta
 and some of these runs have -z, -q or more threads. What is compared and printed is as in compare_dirty.py.
 
 A path without a pattern that selects nothing is a failure of the program. It has to name such a path, and the others are then
-run without it.
+run without it. If one of PATHS excludes, --ignored isn't compared over a repository with an ignored nested one.
 """
 
 import os
@@ -38,6 +38,7 @@ class PathspecComparer(UntrackedComparer):
     """Runs git and the program over one drawn repository, for each of its lists of PATHS."""
 
     settings = {}
+    has_ignored_repository = False
 
     def command(self, folder, *words):
         command = status_words(folder, *words)
@@ -47,15 +48,19 @@ class PathspecComparer(UntrackedComparer):
         forms = [*self.all_forms()]
         for asked in self.drawing.asked:
             self.settings = asked.settings
+            # Git has a rule of its own then, which the manual page names.
+            is_doubtful = self.has_ignored_repository and any("exclude" in parts_of(word, asked.settings)[0] for word in asked.words)
             for columns, ours, gits in forms:
-                yield from self.runs_of_list(asked, columns, ours, gits)
+                if not (is_doubtful and IGNORED in gits):
+                    yield from self.runs_of_list(asked, columns, ours, gits)
 
     def all_forms(self):
         """Yields the columns, other words of the program, and words of git, of each run of a list."""
         yield from ((columns, [], []) for columns in COLUMNS)
         # With -uall a line that ends with a slash is that of a nested repository.
         printed = self.lines(self.top, "-uall", IGNORED, "-z")[0]
-        if any(line[:2] == b"!!" and line.endswith(b"/") for line in printed.split(b"\0")):
+        self.has_ignored_repository = any(line[:2] == b"!!" and line.endswith(b"/") for line in printed.split(b"\0"))
+        if self.has_ignored_repository:
             self.drawing.kinds.add("with an ignored repository")
         for gits, forms in MODES.items():
             yield [], self.drawing.random.choice(forms), [gits]

@@ -59,10 +59,22 @@ def parts_of(word, settings):
     return magic | ({"icase"} & names), rest
 
 
+def without_parents(path):
+    """Returns a relative path without names that `..` takes back."""
+    names = []
+    for name in path.split("/"):
+        if name == ".." and names and names[-1] != "..":
+            names.pop()
+        elif name not in ("", "."):
+            names.append(name)
+    return "/".join(names)
+
+
 def is_plain(word, settings):
     """Returns whether a word is a path without a pattern. If such a path selects nothing, the program fails."""
     magic, rest = parts_of(word, settings)
-    return not magic & {"exclude", "icase"} and ("literal" in magic or not WILDCARDS.search(rest))
+    path = rest if "top" in magic else without_parents(rest)
+    return not magic & {"exclude", "icase"} and ("literal" in magic or not WILDCARDS.search(path))
 
 
 def from_folder(path, folder):
