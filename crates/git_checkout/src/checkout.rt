@@ -172,6 +172,7 @@ struct Found<'x, R: Files> {
 ///
 /// # Errors
 /// A setting or HEAD can't be read, a path selects nothing, or the index can't be refreshed.
+#[tactic(auto, using(git_pathspecs::proofs::Sent::element_sync))]
 fn run_over<'x, R: AllocGlobal + Env + Files + Sync + Threads + Wait, O: io::Write, E: io::Write>(
     rt: &'x R,
     request: &Request<'_>,
@@ -379,6 +380,7 @@ struct Nested<'x, U> {
 
 /// Prints the status of an index file. A nested repository counts as a node at the paths of some entries. There are new bytes
 /// only if the file is to be refreshed.
+#[tactic(auto, using(git_pathspecs::proofs::Sent::element_sync))]
 fn compare<
     'x,
     'b,

@@ -83,6 +83,7 @@ where
     }
 
     /// Returns the error of the status of the entries with this path, computed by one thread.
+    #[tactic(auto, using(git_pathspecs::proofs::Sent::element_sync))]
     fn error_at<R: AllocGlobal + Threads + Wait>(
         &self,
         rt: &R,
