@@ -2,9 +2,8 @@
 
 use crate::asked::Asked;
 use crate::lines::Quoted;
-use crate::paths::Paths;
+use crate::only::OnlyPath;
 use bstr::BStr;
-use git_pathspecs::Element;
 use status_base::worktree::{MemoryObjects, NoFilter, NoLister, NoSubmodules, Pathspec, Worktree};
 use status_call::index_as_worktree::traits::FastEq;
 use status_call::index_as_worktree::{
@@ -83,7 +82,6 @@ where
     }
 
     /// Returns the error of the status of the entries with this path, computed by one thread.
-    #[tactic(auto, using(git_pathspecs::proofs::Sent::element_sync))]
     fn error_at<R: AllocGlobal + Threads + Wait>(
         &self,
         rt: &R,
@@ -91,12 +89,10 @@ where
         path: BStr<'_>,
     ) -> Option<Error> {
         let alloc = rt.alloc();
-        let element = Element::at(path.as_bytes());
         // A conversion of line ends fails only if reading does, so none is made here.
         let context = Context {
-            pathspec: Paths {
-                elements: &[element],
-                left_out: &State::new(alloc, index.timestamp()),
+            pathspec: OnlyPath {
+                path: path.as_bytes(),
             },
             filter: NoFilter,
             lister: NoLister,
