@@ -11,6 +11,7 @@ mod comparison;
 mod explained;
 mod explainer;
 mod json;
+mod only;
 mod paths;
 mod reason;
 mod recorded;

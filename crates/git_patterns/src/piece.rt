@@ -56,14 +56,7 @@ fn set_of(alloc: Global, negated: bool, bytes: &[u8]) -> Result<Option<(Piece, &
     ensures { IfOk result (λ found. option_map (λ x. (part_of x.0, x.1.now)) found ≡ set_part_at negated bytes.now) }
 {
     match items_of(alloc, bytes)? {
-        Some((items, after)) => {
-            let set = Piece::Set {
-                slashes: false,
-                negated,
-                items,
-            };
-            Ok(Some((set, after)))
-        }
+        Some((items, after)) => Ok(Some((Piece::Set { negated, items }, after))),
         None => Ok(None),
     }
 }
@@ -71,7 +64,7 @@ fn set_of(alloc: Global, negated: bool, bytes: &[u8]) -> Result<Option<(Piece, &
 /// Reads a piece, and returns the text after it. `at_name` says whether it begins a name. None if there is none, or a
 /// backslash has nothing after it, or a set no end.
 #[tactic(auto, unfolding(crate::specs::Patterns::part_at))]
-pub(crate) fn piece_of(
+fn piece_of(
     alloc: Global,
     at_name: bool,
     pattern: &[u8],
@@ -95,7 +88,7 @@ pub(crate) fn piece_of(
 }
 
 /// Returns whether a name begins after a piece.
-pub(crate) fn begins_name(piece: &Piece) -> bool
+fn begins_name(piece: &Piece) -> bool
     ensures { result ≡ begins_name (part_of piece.now) }
 {
     match piece {
@@ -120,7 +113,7 @@ fn special_at(pattern: &[u8]) -> Option<usize>
 }
 
 /// Returns how many bytes of a pattern come before the first one with a meaning of its own.
-pub fn literal_len(pattern: &[u8]) -> usize
+fn literal_len(pattern: &[u8]) -> usize
     ensures { result ≡ literal_len pattern.now }
 {
     match special_at(pattern) {
@@ -170,12 +163,8 @@ pub(crate) enum Piece {
     Byte(u8),
     /// `?`: a byte of a name.
     Any,
-    /// `[..]`, or `[!..]` if it is negated: a byte that the set has. It may have a slash or not.
-    Set {
-        slashes: bool,
-        negated: bool,
-        items: Vec<Item>,
-    },
+    /// `[..]`, or `[!..]` if it is negated: a byte of a name that the set has.
+    Set { negated: bool, items: Vec<Item> },
     /// `*`: bytes of one name, or none.
     Name,
     /// `**/`: any number of folders.
@@ -198,17 +187,8 @@ pub(crate) fn is_match(pieces: &[Piece], path: &[u8]) -> bool
             [byte, after @ ..] => *byte != b'/' && is_match(rest, after),
             [] => false,
         },
-        [
-            Piece::Set {
-                slashes,
-                negated,
-                items,
-            },
-            rest @ ..,
-        ] => match path {
-            [byte, after @ ..] => {
-                is_in_set(*slashes, *negated, items, *byte) && is_match(rest, after)
-            }
+        [Piece::Set { negated, items }, rest @ ..] => match path {
+            [byte, after @ ..] => is_in_set(*negated, items, *byte) && is_match(rest, after),
             [] => false,
         },
         [Piece::Name, rest @ ..] => {

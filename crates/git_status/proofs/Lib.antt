@@ -12,6 +12,5 @@ pub mod RefreshedVerdicts
 pub mod Refreshing
 pub mod Runs
 pub mod Selected
-pub mod Sent
 pub mod Shown
 pub mod Unmerged

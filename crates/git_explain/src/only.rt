@@ -5,9 +5,9 @@ use status_base::worktree::Pathspec;
 
 /// Selects the entries of one path.
 #[derive(Clone, Copy)]
-pub struct OnlyPath<'p> {
+pub(crate) struct OnlyPath<'p> {
     /// The path.
-    pub path: &'p [u8],
+    pub(crate) path: &'p [u8],
 }
 
 impl Pathspec for OnlyPath<'_> {

@@ -1,3 +1,0 @@
-pub mod Elements
-pub mod Lists
-pub mod Names
