@@ -41,16 +41,22 @@ class Comparer:
 
     # What git may print to standard error after the edits, and words with which git's lines are counted.
     WARNINGS, COUNTED = rb"", ()
+    # What is added to the environment of both.
+    settings = {"GIT_LITERAL_PATHSPECS": "1"}
 
     def __init__(self, git, program, drawing):
         self.git, self.program, self.drawing, self.top = git, program, drawing, drawing.top
 
     def lines(self, folder, *words):
         """Returns what git prints, and what the program may print to standard error. git has to succeed."""
-        ended = self.git.run(status_words(folder, *words), self.drawing.environment)
+        ended = self.git.run(self.command(folder, *words), {**self.drawing.environment, **self.settings})
         if ended.status != 0 or self.drawing.IS_EDITED and not re.fullmatch(self.WARNINGS, ended.fault):
             raise RuntimeError(f"git {words} in {folder}: {ended.text()}")
         return ended.out, NOTES if ended.fault else NOTHING
+
+    def command(self, folder, *words):
+        """Returns the arguments of git's status."""
+        return status_words(folder, *words)
 
     def runs(self):
         """Yields the arguments of runs, and what git prints for each."""
@@ -94,7 +100,7 @@ class Comparer:
     def differences(self):
         """Yields how each run that differs does."""
         for words, (lines, notes) in self.runs():
-            ended = self.program.run(words, {**self.drawing.environment, "GIT_LITERAL_PATHSPECS": "1"})
+            ended = self.program.run(words, {**self.drawing.environment, **self.settings})
             if self.drawing.refusal and "--worktree" not in words:
                 lines, notes = None, self.drawing.refusal
             lines = None if lines is None else as_dirty(lines, *words)
@@ -115,8 +121,9 @@ def compared(seeds, keep=None, kind=Drawing, program=GIT_DIRTY, comparer=Compare
             one = comparer(git, ours, drawing)
             columns.update(line[:2].decode() for line in one.lines(drawing.top, *one.COUNTED)[0].split(b"\n")[:-1])
             columns["files"] += len(drawing.paths)
-            columns.update(drawing.kinds)
             differences = [*one.differences()]
+            # Some kinds are known after the runs.
+            columns.update(drawing.kinds)
             found += differences
             if differences and keep:
                 # A file that is moved to another device would be another.

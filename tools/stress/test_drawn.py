@@ -9,8 +9,8 @@ import tempfile
 import unittest
 from functools import partial
 
-from stress import compare_commits, compare_dirty, compare_sparse, compare_untracked, draw_histories, draw_untracked
-from stress import mutate_index, mutate_objects, mutate_settings
+from stress import compare_commits, compare_dirty, compare_pathspecs, compare_sparse, compare_untracked
+from stress import draw_histories, draw_pathspecs, draw_untracked, mutate_index, mutate_objects, mutate_settings
 from stress.draw_attributes import AttributeDrawing
 from stress.draw_commits import EACH
 from stress.draw_sparse import SPARSE
@@ -20,6 +20,8 @@ from support.repositories import COLUMNS, CONFLICTS, as_dirty, merged, read, wri
 
 # How many repositories are drawn, of each kind, and how many index files, settings and objects are mutated.
 REPOSITORIES, ATTRIBUTES, COMMITS, SPARSES, UNTRACKED = 1000, 200, 400, 200, 200
+# For each of these repositories four lists of pathspecs are drawn.
+PATHSPECS = 250
 MUTATED, MUTATED_SETTINGS, MUTATED_OBJECTS = 10000, 10000, 2000
 
 # What spoils the end of a program, whose output is in the file `out`, and whose exit status is $status.
@@ -110,6 +112,11 @@ class Drawn(unittest.TestCase):
         counts = self.run_seeds(compare_untracked.run, UNTRACKED, compare_dirty.PART)
         self.assertEqual({one for one in draw_untracked.EACH if not counts[one]}, set())
         self.assertGreater(min(counts["??"], counts["!!"]), 2 * UNTRACKED)
+
+    def test_drawn_pathspecs_select_what_they_do_in_git(self):
+        counts = self.run_seeds(compare_pathspecs.run, PATHSPECS, compare_dirty.PART)
+        each = draw_pathspecs.EACH | compare_pathspecs.EACH
+        self.assertEqual({one for one in each if counts[one] < PATHSPECS // 20}, set())
 
     def test_mutated_objects_are_refused_or_read_as_by_git(self):
         kinds = self.run_seeds(mutate_objects.run, MUTATED_OBJECTS, mutate_objects.PART // 2)

@@ -19,7 +19,7 @@ module _ (κ : NamedLft) where
   Assignment-sync = search (Value-sync, sendable, crosses) depth 40
 
   Rule-sync : IsSync (rule.the_row κ)
-  Rule-sync = search (Assignment-sync, sendable, crosses) depth 40
+  Rule-sync = search (Assignment-sync, sendable, crosses) depth 40 fits 5000
 
   Macro-sync : IsSync (macros.the_row κ)
   Macro-sync = search (Assignment-sync, sendable, crosses) depth 40

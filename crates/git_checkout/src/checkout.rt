@@ -10,20 +10,22 @@ use crate::index_file::{FoundIndex, read_index_file};
 use crate::objects::{LazyObjects, modules_of};
 use crate::refresh::Refresh;
 use crate::refused::{Illformed, Refused};
-use crate::request::{Columns, Request, Selected, UntrackedFiles, selected_by};
-use crate::selection::{Exceptions, check_each, own_tops_of, tops_of, untracked_of};
+use crate::request::{Columns, Request, UntrackedFiles};
+use crate::selected::{Selected, elements_of, selected_by};
+use crate::selection::{Exceptions, check_each, untracked_of};
 use crate::sparse::whole_index;
 use crate::staged::run_staged;
 use crate::untracked::{UntrackedParts, outer_files_for};
 use git_attributes::{AttributeFiles, WithStaged};
 use git_explain::{Wanted, run_explain};
+use git_pathspecs::Element;
 use git_repository::{
     GitAttributeFiles, IgnoredSubmodules, IntendedWorktree, Repository, SubmoduleHeads,
     time_of_lock,
 };
 use git_status::lines::LineStyle;
 use git_status::{
-    Asked, Failure, Paths, ReadIndex, Refreshed, Searches, Settings, Top, print_failure, run_dirty,
+    Asked, Failure, Paths, ReadIndex, Refreshed, Searches, Settings, print_failure, run_dirty,
     run_refresh,
 };
 use git_untracked::FindUntracked;
@@ -102,7 +104,7 @@ where
 /// Does the same in the repository of the request's folder.
 ///
 /// # Errors
-/// There is no repository, its index, HEAD or a setting can't be read, a path isn't in its worktree, is a pattern or selects
+/// There is no repository, its index, HEAD or a setting can't be read, one of PATHS can't be used or names
 /// nothing, or the index can't be refreshed.
 fn run_in_repository<
     R: AllocGlobal + Env + Files + Sync + Threads + Wait,
@@ -170,6 +172,7 @@ struct Found<'x, R: Files> {
 ///
 /// # Errors
 /// A setting or HEAD can't be read, a path selects nothing, or the index can't be refreshed.
+#[tactic(auto, using(git_pathspecs::proofs::Sent::element_sync))]
 fn run_over<'x, R: AllocGlobal + Env + Files + Sync + Threads + Wait, O: io::Write, E: io::Write>(
     rt: &'x R,
     request: &Request<'_>,
@@ -204,8 +207,8 @@ where
         intended,
         illformed,
     } = Exceptions::of(alloc, index, worktree, selected, &ignored)?;
-    let tops = tops_of(alloc, selected)?;
-    let staged_tops = tops_of(alloc, selected)?;
+    let elements = elements_of(alloc, selected)?;
+    let staged_elements = elements_of(alloc, selected)?;
     let unknown = untracked_of(alloc, index, selected)?;
     let parts = UntrackedParts {
         mode: request.untracked,
@@ -217,8 +220,7 @@ where
             top: front,
         },
         outer: outer_files_for(rt, request, repository)?,
-        are_all: tops.is_empty(),
-        tops: own_tops_of(alloc, selected)?,
+        elements: elements_of(alloc, selected)?,
     };
     let untracked = parts.search();
     let objects = LazyObjects { rt, repository };
@@ -235,7 +237,7 @@ where
         worktree,
         submodules: SubmoduleHeads::new(rt, top, &ignored),
         paths: Paths {
-            tops: &tops,
+            elements: &elements,
             left_out: &left_out,
         },
         attributes,
@@ -248,7 +250,7 @@ where
     };
     let nested = Nested {
         top,
-        tops: &staged_tops,
+        elements: &staged_elements,
         untracked: &untracked,
         intended: &intended,
         wanted: Wanted {
@@ -366,8 +368,8 @@ pub(crate) fn git_worktree<'r, R: AllocGlobal + Files>(
 struct Nested<'x, U> {
     /// The worktree's folder.
     top: &'x str,
-    /// The paths at which the index is compared with HEAD.
-    tops: &'x [Top<'x>],
+    /// The elements of the pathspec by which the index is compared with HEAD.
+    elements: &'x [Element<'x>],
     /// Finds untracked files.
     untracked: &'x U,
     /// The entries at whose paths they count.
@@ -378,6 +380,7 @@ struct Nested<'x, U> {
 
 /// Prints the status of an index file. A nested repository counts as a node at the paths of some entries. There are new bytes
 /// only if the file is to be refreshed.
+#[tactic(auto, using(git_pathspecs::proofs::Sent::element_sync))]
 fn compare<
     'x,
     'b,
@@ -413,7 +416,7 @@ where
     };
     let nothing = State::new(rt.alloc(), Moment::default());
     let paths = Paths {
-        tops: nested.tops,
+        elements: nested.elements,
         left_out: &nothing,
     };
     let head = head_at(asked.beside, paths);

@@ -5,13 +5,13 @@ ghost use Rattle.git_checkout.specs.Folders.{MayBe};
 use crate::objects::LazyObjects;
 use bitflags::Flags as _;
 use bstr::BStr;
-use git_objects::{ObjectKind, ReadObject};
+use git_objects::{ObjectFault, ObjectKind, ReadObject};
 use git_repository::{IGNORE_LIMIT, Repository, is_repository};
 use git_untracked::Folders;
 use status_base::worktree::disk::fault_of;
 use status_base::worktree::{Fault, NodeKind, Worktree};
 use status_index::{Flags, State, read_all};
-use std::alloc::Global;
+use std::alloc::{AllocError, Global};
 use std::io::{self, Read as _};
 use std::os::unix::fs::FileExt;
 use std::rt::{Env, Files};
@@ -23,8 +23,6 @@ const NAME: &[u8] = b".gitignore";
 const PART: usize = 4096;
 
 /// The folders of a worktree.
-///
-/// A walk has as many calls within each other as folders are, so that the memory of these methods mustn't be part of its own.
 #[derive(Drop)]
 pub(crate) struct DiskFolders<'x, R, W> {
     pub(crate) rt: &'x R,
@@ -40,7 +38,6 @@ where
 {
     ghost may_be = { λ f path. MayBe (W.may_stat f.worktree.now path) };
 
-    #[inline(never)]
     fn list(&self, folder: BStr<'_>) -> Result<Option<Vec<Vec<u8>>>, Fault> {
         let path = self.path_of(folder)?;
         let mut listing = match self.rt.open_dir(path.as_str()) {
@@ -62,7 +59,6 @@ where
         Err(Fault::Memory)
     }
 
-    #[inline(never)]
     fn kind(&self, path: BStr<'_>) -> Result<Option<NodeKind>, Fault> {
         match self.worktree.lstat(path) {
             Ok(node) => Ok(Some(node.kind)),
@@ -73,13 +69,12 @@ where
         }
     }
 
-    #[inline(never)]
     fn ignore_file(
         &self,
         index: &State,
         folder: BStr<'_>,
         is_there: bool,
-    ) -> Result<Option<Vec<u8>>, Fault> {
+    ) -> Result<Option<Vec<u8>>, ObjectFault> {
         let mut path = Vec::from_slice(self.rt.alloc(), folder.as_bytes())?;
         path.extend_from_slice(NAME)?;
         let path = BStr::new(path.as_slice());
@@ -98,15 +93,14 @@ where
                 };
                 match objects.read(entry.id) {
                     Ok(blob) if blob.kind == ObjectKind::Blob => Ok(Some(blob.bytes)),
-                    Ok(_) => Ok(None),
-                    Err(_) => Err(Fault::UnexpectedEnd),
+                    Ok(_) | Err(ObjectFault::Missing { .. }) => Ok(None),
+                    Err(fault) => Err(fault),
                 }
             }
             _ => Ok(None),
         }
     }
 
-    #[inline(never)]
     fn is_repository(&self, folder: BStr<'_>) -> Result<bool, Fault> {
         let path = self.path_of(folder)?;
         Ok(is_repository(self.rt, path.as_str())?)
@@ -165,11 +159,11 @@ impl<R: AllocGlobal, W: Worktree> DiskFolders<'_, R, W> {
     ///
     /// # Errors
     /// Out of memory.
-    fn file_at(&self, path: BStr<'_>) -> Result<Found, Fault> {
+    fn file_at(&self, path: BStr<'_>) -> Result<Found, AllocError> {
         match self.worktree.lstat(path) {
             Ok(node) if node.kind == NodeKind::Directory => return Ok(Found::Folder),
             Ok(node) if node.kind == NodeKind::File && node.len < IGNORE_LIMIT as u64 => {}
-            Err(Fault::Memory) => return Err(Fault::Memory),
+            Err(Fault::Memory) => return Err(AllocError),
             _ => return Ok(Found::Unread),
         }
         let mut bytes = Vec::new(self.rt.alloc());
@@ -185,9 +179,9 @@ impl<R: AllocGlobal, W: Worktree> DiskFolders<'_, R, W> {
 }
 
 /// Returns that a file can't be read, unless memory ran out.
-fn unread(fault: Fault) -> Result<Found, Fault> {
+fn unread(fault: Fault) -> Result<Found, AllocError> {
     match fault {
-        Fault::Memory => Err(fault),
+        Fault::Memory => Err(AllocError),
         _ => Ok(Found::Unread),
     }
 }

@@ -1,8 +1,8 @@
 //! The status of a checkout on disk: all of the command `git dirty` but its command line, for programs that ask for
 //! it.
 //!
-//! Read `request` first, the options of a call and the paths that it selects, and then `checkout`, the calls. They find
-//! the repository, read HEAD's commit (`head`, which asks `replaced` whether git reads other objects), read the index
+//! Read `request` first, the options of a call, and then `checkout`, the calls. They find the repository, read the words of
+//! PATHS (`selected`), read HEAD's commit (`head`, which asks `replaced` whether git reads other objects), read the index
 //! file (`index_file`), make that of a sparse checkout whole (`sparse`) and choose its entries (`selection`). `staged` is
 //! the call for the first column alone. The contract of the comparison is that of `run_dirty` in the crate git_status.
 //! `objects` reads what git reads of the index if the worktree has no file, and `attributes` chooses such attribute files.
@@ -20,6 +20,7 @@ mod refresh;
 mod refused;
 mod replaced;
 pub mod request;
+mod selected;
 mod selection;
 mod sparse;
 mod staged;

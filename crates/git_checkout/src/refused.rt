@@ -31,6 +31,11 @@ pub enum Refused {
     },
     /// A path is empty.
     EmptyPath,
+    /// The environment asks for pathspecs that aren't read.
+    Pathspecs {
+        /// Why they aren't.
+        reason: &'static str,
+    },
     /// The index isn't refreshed, because the new one might hide a change from git.
     Unrefreshed {
         /// Why it might.
@@ -68,8 +73,18 @@ pub enum Refused {
 pub enum PathRefusal {
     /// It isn't in the worktree.
     Outside,
-    /// It is a pattern.
-    Pattern,
+    /// It has magic words or signs that aren't supported.
+    Magic,
+    /// Its list of magic words has no end.
+    Unclosed,
+    /// Its magic words exclude each other.
+    Incompatible,
+    /// It begins at the top, and has slashes without a name between them.
+    Slashes,
+    /// Its case doesn't count, and it has a set or a backslash.
+    Icase,
+    /// It is a pattern with too many bytes.
+    Long,
     /// Nothing is there, and neither the index nor HEAD has a file at it or below it.
     Unmatched,
 }
@@ -103,13 +118,26 @@ impl fmt::Display for Refused {
             Refused::Index(failure) => write!(f, "{failure}"),
             Refused::Path { path, why } => match why {
                 PathRefusal::Outside => write!(f, "'{path}' is outside of the worktree"),
-                PathRefusal::Pattern => write!(
+                PathRefusal::Magic => write!(
                     f,
-                    "patterns aren't supported: '{path}' (git --literal-pathspecs takes it for a path)"
+                    "'{path}' has magic that isn't supported: only top, exclude, glob, literal and icase are"
                 ),
+                PathRefusal::Unclosed => write!(f, "'{path}' has no ) after its magic"),
+                PathRefusal::Incompatible => {
+                    write!(f, "'{path}' can't be both a literal path and a pattern")
+                }
+                PathRefusal::Slashes => {
+                    write!(f, "'{path}' has a slash without a name before it")
+                }
+                PathRefusal::Icase => write!(
+                    f,
+                    "a pattern with [ or \\ whose case doesn't count isn't supported: '{path}'"
+                ),
+                PathRefusal::Long => write!(f, "the pattern is too long: '{path}'"),
                 PathRefusal::Unmatched => write!(f, "no tracked file matches '{path}'"),
             },
             Refused::EmptyPath => f.write_str("an empty path: use . for the working folder"),
+            Refused::Pathspecs { reason } => f.write_str(reason),
             Refused::Unrefreshed { reason } => write!(
                 f,
                 "the index isn't refreshed, since {reason}: use git update-index --refresh"

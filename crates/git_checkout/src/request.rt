@@ -1,9 +1,6 @@
-//! The request of a call: its options, and the paths that it selects.
+//! The request of a call: its options.
 
-use crate::refused::{PathRefusal, Refused};
-use git_repository::{Repository, is_set};
 use std::alloc::Global;
-use std::rt::Env;
 
 /// The columns of lines, which are compared.
 #[derive(Clone, Copy, Debug, PartialEq, Eq)]
@@ -56,7 +53,7 @@ pub struct Request<'a> {
     pub enter: bool,
     /// The greatest number of threads, or `None` for the usual number.
     pub threads: Option<usize>,
-    /// The files and folders that are compared. All if there is none.
+    /// The words of git's pathspec, such as `src` and `*.c`: what they select is compared. All if there is none.
     pub paths: Vec<&'a str>,
 }
 
@@ -79,107 +76,4 @@ impl<'a> Request<'a> {
             paths: Vec::new(alloc),
         }
     }
-}
-
-/// A file or folder that a request selects.
-#[derive(Drop)]
-pub(crate) struct Selected<'a> {
-    /// The word that was passed.
-    pub(crate) word: &'a str,
-    /// The path from the worktree's top, without a slash at its end. It is empty for the top itself.
-    pub(crate) path: String,
-    /// Whether only a folder is selected, since the word ends with a slash, or with `.` or `..`.
-    pub(crate) is_folder: bool,
-}
-
-/// Returns what the words of a request select.
-///
-/// # Errors
-/// A word is empty or a pattern, or its path isn't in the worktree; `GIT_LITERAL_PATHSPECS` is no boolean; or out of memory.
-pub(crate) fn selected_by<'a, R: AllocGlobal + Env>(
-    rt: &R,
-    repository: &Repository,
-    words: &[&'a str],
-) -> Result<Vec<Selected<'a>>, Refused> {
-    let alloc = rt.alloc();
-    let is_literal = is_set(rt, "GIT_LITERAL_PATHSPECS")?;
-    let mut selected = Vec::new(alloc);
-    for word in words {
-        if !is_literal && is_pattern(word) {
-            return Err(Refused::path(alloc, word, PathRefusal::Pattern));
-        }
-        selected.push(Selected {
-            word,
-            path: path_from_top(
-                alloc,
-                repository.top.as_str(),
-                repository.prefix.as_str(),
-                word,
-            )?,
-            is_folder: matches!(word.rsplit('/').next(), Some("" | "." | "..")),
-        })?;
-    }
-    Ok(selected)
-}
-
-/// Returns whether git takes a word for a pattern of paths: it has one of the characters `*`, `?`, `[` and `\`, or begins with
-/// a colon.
-fn is_pattern(word: &str) -> bool {
-    word.starts_with(':')
-        || word
-            .bytes()
-            .any(|byte| matches!(byte, b'*' | b'?' | b'[' | b'\\'))
-}
-
-/// Returns the path, from the worktree's top, of the file or folder that a word names from the folder `prefix`, which is empty
-/// or ends with a slash. The top itself is the empty path.
-///
-/// # Errors
-/// The word is empty, the path isn't in the worktree, or out of memory.
-fn path_from_top(alloc: Global, top: &str, prefix: &str, word: &str) -> Result<String, Refused> {
-    if word.is_empty() {
-        return Err(Refused::EmptyPath);
-    }
-    let mut path = String::new(alloc);
-    if word.starts_with("/") {
-        let Some(below) = below_top(top.trim_end_matches("/"), word) else {
-            return Err(Refused::path(alloc, word, PathRefusal::Outside));
-        };
-        return walk(alloc, path, below, word);
-    }
-    path.push_str(prefix.trim_end_matches("/"))?;
-    walk(alloc, path, word, word)
-}
-
-/// Returns the rest of an absolute path of the worktree, or `None` if it isn't one.
-fn below_top<'a>(top: &str, path: &'a str) -> Option<&'a str> {
-    match path.strip_prefix(top)? {
-        "" => Some(""),
-        rest if rest.starts_with("/") => Some(rest),
-        _ => None,
-    }
-}
-
-/// Returns the path after these components.
-fn walk(alloc: Global, mut path: String, components: &str, word: &str) -> Result<String, Refused> {
-    for component in components.split("/") {
-        match component {
-            "" | "." => {}
-            ".." if path.is_empty() => return Err(Refused::path(alloc, word, PathRefusal::Outside)),
-            ".." => {
-                let parent = match path.as_str().rsplit_once("/") {
-                    Some((parent, _)) => String::from_str(alloc, parent)?,
-                    None => String::new(alloc),
-                };
-                path = parent;
-            }
-            name => {
-                if !path.is_empty() {
-                    path.push_str("/")?;
-                }
-                path.push_str(name)?;
-            }
-        }
-    }
-    Ok(path)
 }

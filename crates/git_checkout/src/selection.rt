@@ -2,11 +2,11 @@
 
 use crate::head::{HeadCommit, files_of};
 use crate::refused::{PathRefusal, Refused};
-use crate::request::Selected;
+use crate::selected::{Selected, elements_of};
 use bitflags::Flags as _;
 use bstr::{BStr, BString};
 use git_repository::IgnoredSubmodules;
-use git_status::{Paths, Top};
+use git_status::Paths;
 use status_base::stack::{StackError, SymlinkCheck};
 use status_base::worktree::{NodeKind, Pathspec, Worktree};
 use status_index::{Entry, Flags, State};
@@ -33,42 +33,8 @@ pub(crate) struct Exceptions {
     pub(crate) illformed: Vec<Vec<u8>>,
 }
 
-/// Returns the paths by which entries are selected. There is none if the worktree's top is selected.
-///
-/// # Errors
-/// Out of memory.
-pub(crate) fn tops_of<'a>(
-    alloc: Global,
-    selected: &'a [Selected<'_>],
-) -> Result<Vec<Top<'a>>, AllocError> {
-    if selected.iter().any(|one| one.path.is_empty()) {
-        return Ok(Vec::new(alloc));
-    }
-    own_tops_of(alloc, selected)
-}
-
-/// Returns the paths that are selected by themselves. The worktree's top is none.
-///
-/// # Errors
-/// Out of memory.
-pub(crate) fn own_tops_of<'a>(
-    alloc: Global,
-    selected: &'a [Selected<'_>],
-) -> Result<Vec<Top<'a>>, AllocError> {
-    let mut tops = Vec::new(alloc);
-    for one in selected {
-        if !one.path.is_empty() {
-            tops.push(Top {
-                path: one.path.as_bytes(),
-                is_folder: one.is_folder,
-            })?;
-        }
-    }
-    Ok(tops)
-}
-
-/// Checks that something is at each selected path, or was when it was staged or committed: an entry is at it or below it, a node
-/// is in the worktree, or HEAD's commit has a file.
+/// Checks that something is at each path that a word names, or was when it was staged or committed: an entry is at it or below
+/// it, a node is in the worktree, or HEAD's commit has a file. Words that are patterns or exclude may select nothing.
 ///
 /// # Errors
 /// Nothing is at one, HEAD's files can't be read, or out of memory.
@@ -84,7 +50,7 @@ where
 {
     let mut files = None;
     for one in selected {
-        if one.path.is_empty() || has_entry(alloc, index, one)? || has_node(worktree, one) {
+        if !one.names_one() || has_entry(alloc, index, one)? || has_node(worktree, one) {
             continue;
         }
         let committed = files_of(alloc, head, files)?;
@@ -97,7 +63,7 @@ where
     Ok(())
 }
 
-/// Returns the selected paths at which and below which an index has no entry.
+/// Returns the paths that words name, and at which and below which an index has no entry.
 ///
 /// # Errors
 /// Out of memory.
@@ -108,8 +74,8 @@ pub(crate) fn untracked_of<'a>(
 ) -> Result<Vec<&'a str>, AllocError> {
     let mut untracked = Vec::new(alloc);
     for one in selected {
-        if !one.path.is_empty() && !has_entry(alloc, index, one)? {
-            untracked.push(one.path.as_str())?;
+        if one.names_one() && !has_entry(alloc, index, one)? {
+            untracked.push(one.path())?;
         }
     }
     Ok(untracked)
@@ -117,8 +83,8 @@ pub(crate) fn untracked_of<'a>(
 
 /// Returns whether a node is at a path, and a folder if only that is selected.
 fn has_node<W: Worktree>(worktree: &W, one: &Selected<'_>) -> bool {
-    match worktree.lstat(BStr::new(one.path.as_bytes())) {
-        Ok(node) => !one.is_folder || node.kind == NodeKind::Directory,
+    match worktree.lstat(BStr::new(one.path().as_bytes())) {
+        Ok(node) => !one.is_folder() || node.kind == NodeKind::Directory,
         Err(_) => false,
     }
 }
@@ -129,9 +95,9 @@ pub(crate) fn has_entry(
     index: &State,
     one: &Selected<'_>,
 ) -> Result<bool, AllocError> {
-    let path = BStr::new(one.path.as_bytes());
+    let path = BStr::new(one.path().as_bytes());
     let mut there = index.entries_at(path).iter();
-    if there.any(|entry| !one.is_folder || entry.mode.is_submodule()) {
+    if there.any(|entry| !one.is_folder() || entry.mode.is_submodule()) {
         return Ok(true);
     }
     let mut below = Vec::from_slice(alloc, path.as_bytes())?;
@@ -156,9 +122,9 @@ impl Exceptions {
         ignored: &IgnoredSubmodules,
     ) -> Result<Exceptions, AllocError> {
         let nothing = State::new(alloc, index.timestamp());
-        let tops = tops_of(alloc, selected)?;
+        let elements = elements_of(alloc, selected)?;
         let paths = Paths {
-            tops: &tops,
+            elements: &elements,
             left_out: &nothing,
         };
         let mut check = SymlinkCheck::new(alloc, BString::new(Vec::new(alloc)));

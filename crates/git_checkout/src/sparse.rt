@@ -4,7 +4,7 @@ use crate::head::HeadCommit;
 use crate::objects::LazyObjects;
 use crate::refresh::has_extension;
 use crate::refused::Refused;
-use crate::request::Selected;
+use crate::selected::Selected;
 use bitflags::Flags as _;
 use bstr::{BStr, BString};
 use git_index::{IndexFileError, ends_with_checksum, write_index};
@@ -26,8 +26,8 @@ const SPARSE: [u8; 4] = *b"sdir";
 
 /// Returns the bytes of the index file that git makes of one that was read, if it makes another one.
 ///
-/// A sparse index gets the files of its folders if one of the folders is in the worktree, if something is staged, or if a path
-/// within one of the folders is selected. Then, if the settings say so, each entry that the sparse checkout leaves out counts as
+/// A sparse index gets the files of its folders if one of the folders is in the worktree, if something is staged, or if a word
+/// names a path within one of the folders. Then, if the settings say so, each entry that the sparse checkout leaves out counts as
 /// any other if its file is there.
 ///
 /// # Errors
@@ -80,16 +80,15 @@ fn has_one_there<W: Worktree>(index: &State, worktree: &W) -> bool {
     })
 }
 
-/// Returns whether a selected path is within one of the folders of a sparse index.
+/// Returns whether a path that a word names is within one of the folders of a sparse index.
 fn has_one_above(index: &State, selected: &[Selected<'_>]) -> bool {
     let backing = index.path_backing();
     !selected.is_empty()
         && index.entries().iter().any(|entry| {
             let path = entry.path_in(backing).as_bytes();
             entry.mode == Mode::Dir
-                && selected
-                    .iter()
-                    .any(|one| one.path.as_bytes().starts_with(path))
+                && selected.iter().any(|one| one.names_one()
+                    && one.path().as_bytes().starts_with(path))
         })
 }
 

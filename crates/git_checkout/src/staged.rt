@@ -4,8 +4,9 @@ use crate::checkout::settings_of;
 use crate::head::{HeadCommit, head_at};
 use crate::index_file::read_index_file;
 use crate::refused::Refused;
-use crate::request::{Columns, Request, Selected, selected_by};
-use crate::selection::{check_each, tops_of};
+use crate::request::{Columns, Request};
+use crate::selected::{Selected, elements_of, selected_by};
+use crate::selection::check_each;
 use crate::sparse::whole_index;
 use git_repository::Repository;
 use git_status::lines::LineStyle;
@@ -22,7 +23,7 @@ use std::rt::{Env, Files};
 /// index file the lines of both columns are these too, and the selected paths were checked before.
 ///
 /// # Errors
-/// There is no repository, its index, HEAD or a tree can't be read, a path isn't in its worktree, is a pattern or selects
+/// There is no repository, its index, HEAD or a tree can't be read, one of PATHS can't be used or names
 /// nothing, or the output takes no more.
 pub(crate) fn run_staged<R: AllocGlobal + Env + Files, O: io::Write>(
     rt: &R,
@@ -83,9 +84,9 @@ where
     R::File: FileExt,
 {
     let nothing = State::new(alloc, Moment::default());
-    let tops = tops_of(alloc, selected)?;
+    let elements = elements_of(alloc, selected)?;
     let paths = Paths {
-        tops: &tops,
+        elements: &elements,
         left_out: &nothing,
     };
     let style = if request.quiet {

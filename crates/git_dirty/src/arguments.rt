@@ -22,7 +22,8 @@ Examples:
 
 Exit status: 0 if nothing differs, 1 if something does, 2 after a failure.
 A line has the letters of git status --porcelain: what is staged, and what
-isn't. A path that selects nothing is a failure, and so is one with wildcards.
+isn't. PATHS select as in git: folders, patterns such as '*.c', or ':!docs'. A
+path without wildcards that selects nothing is a failure.
 Files with filters (git LFS), ident or an encoding aren't compared as git does:
 don't rely on this command there.";
 
@@ -135,7 +136,7 @@ fn threads<'a>(alloc: Global) -> Arg<'a> {
 fn paths<'a>(alloc: Global) -> Arg<'a> {
     Arg::new(alloc, "paths")
         .value_name("PATHS")
-        .help("Compare only these files, and all files below these folders")
+        .help("Compare only what these files, folders and patterns select")
         .num_args(0..)
         .action(ArgAction::Append)
 }

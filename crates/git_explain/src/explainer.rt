@@ -7,11 +7,11 @@ ghost use Rattle.status_base.specs.Looked.{IsMet};
 
 use crate::asking::{ask_along, ask_submodule, read_file, read_link};
 use crate::explained::Explained;
-use crate::only::OnlyPath;
 use crate::recorded::{RecordedSubmodule, RecordedWorktree};
 use crate::sight::Sight;
 use bstr::BStr;
 use git_attributes::LineEnds;
+use git_status::OnlyPath;
 use status_base::worktree::{
     GuardedWorktree, MemoryObjects, Metadata, NoLister, NodeKind, SubmoduleStatus, Worktree,
 };

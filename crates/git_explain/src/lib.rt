@@ -11,7 +11,6 @@ mod comparison;
 mod explained;
 mod explainer;
 mod json;
-mod only;
 mod paths;
 mod reason;
 mod recorded;

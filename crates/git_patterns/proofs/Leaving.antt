@@ -6,9 +6,11 @@ use Rattle.git_patterns.specs.Items.{closed_by, items_of}
 use Rattle.git_patterns.specs.Sets.{byte_at, class_at, class_named, class_to, has_range, item_at, item_step, member_at, named_item, range_after, range_at, set_at}
 use Rattle.git_patterns.specs.Sets as sets
 use Rattle.git_patterns.specs.Patterns.{after_stars, any_set_at, begins_name, escaped_at, part_at, part_step, set_part_at, star_at, stars_at}
+use Rattle.git_patterns.specs.Styles.{styled, styled_step}
 use Rattle.git_patterns.specs.Text.{begins_with, first_at}
 use Rattle.git_patterns.specs.Wildmatch.{Part, One, Any, Set, Name, Folders, Everything}
 use Rattle.git_patterns.specs.declared.set.Class.{Class}
+use Rattle.git_patterns.specs.declared.wildcards.Style.{Style}
 use Rattle.git_patterns.specs.declared.set.Item.{Item}
 use Rattle.git_patterns.specs.declared.set.Item.TheVariants.{Range, Class as Named}
 use Rattle.git_patterns.proofs.Items.{Leaves, Shortens, cond_leaves, items_leave, map_leaves, wider}
@@ -113,7 +115,7 @@ escaped_leaves : (b : ℕ) (rest : Bytes) → Leaves length (b ∷ rest) (escape
 escaped_leaves b rest = map_leaves length (b ∷ rest) One (byte_at rest) (byte_leaves b rest)
 
 set_part_leaves : (negated : Bool) (bytes all : Bytes) → length bytes ≤ length all → Leaves length all (set_part_at negated bytes)
-set_part_leaves negated bytes all le = map_leaves length all (λ items. Set negated items) (set_at bytes) (wider length bytes all (set_at bytes) (set_leaves bytes) le)
+set_part_leaves negated bytes all le = map_leaves length all (λ items. Set false negated items) (set_at bytes) (wider length bytes all (set_at bytes) (set_leaves bytes) le)
 
 any_set_leaves : (b : ℕ) (rest : Bytes) → Leaves length (b ∷ rest) (any_set_at rest)
 any_set_leaves b [] = set_part_leaves false [] (b ∷ []) (omega arith)
@@ -138,3 +140,11 @@ part_stepped at_name bytes (Some x) h = h
 
 pub part_step_leaves : Shortens lens part_step
 part_step_leaves s = part_stepped s.0 s.1 (part_at s.0 s.1) (part_leaves s.0 s.1)
+
+styled_stepped : (style : Style) (at_name : Bool) (bytes : Bytes) (o : Option (Part × Bytes)) → Leaves length bytes o
+    → Leaves lens (at_name, bytes) (option_map (λ x. (styled style x.0, (style.parts_names && begins_name x.0, x.1))) o)
+styled_stepped style at_name bytes None h = tt
+styled_stepped style at_name bytes (Some x) h = h
+
+pub styled_step_leaves : (style : Style) → Shortens lens (styled_step style)
+styled_step_leaves style s = styled_stepped style s.0 s.1 (part_at s.0 s.1) (part_leaves s.0 s.1)

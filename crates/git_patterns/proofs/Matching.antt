@@ -82,8 +82,8 @@ sound (One c ∷ pieces) path e =
 sound (Any ∷ pieces) path e =
     let f = byte_sound no_slash (is_match pieces) path e in
     (f.0, f.1, f.2, (f.3.0, f.3.1, no_slash_is f.3.0 f.3.2), sound pieces f.1 f.4)
-sound (Set negated items ∷ pieces) path e =
-    let f = byte_sound (is_in_set negated items) (is_match pieces) path e in
+sound (Set slashes negated items ∷ pieces) path e =
+    let f = byte_sound (is_in_set slashes negated items) (is_match pieces) path e in
     (f.0, f.1, f.2, f.3, sound pieces f.1 f.4)
 sound (Name ∷ pieces) path e =
     let f = run_sound no_slash (is_match pieces) path e in
@@ -102,8 +102,8 @@ complete (One c ∷ pieces) path m =
     ap (after_byte (λ b. b == c) (is_match pieces)) (m.2 ∙ ap (λ (t : List ℕ). t ++ m.1) m.3) ∙ and_from (c == c) (is_match pieces m.1) (eq-eqb c c refl) (complete pieces m.1 m.4)
 complete (Any ∷ pieces) path m =
     ap (after_byte no_slash (is_match pieces)) (m.2 ∙ ap (λ (t : List ℕ). t ++ m.1) m.3.1) ∙ and_from (no_slash m.3.0) (is_match pieces m.1) (is_no_slash m.3.0 m.3.2) (complete pieces m.1 m.4)
-complete (Set negated items ∷ pieces) path m =
-    ap (after_byte (is_in_set negated items) (is_match pieces)) (m.2 ∙ ap (λ (t : List ℕ). t ++ m.1) m.3.1) ∙ and_from (is_in_set negated items m.3.0) (is_match pieces m.1) m.3.2 (complete pieces m.1 m.4)
+complete (Set slashes negated items ∷ pieces) path m =
+    ap (after_byte (is_in_set slashes negated items) (is_match pieces)) (m.2 ∙ ap (λ (t : List ℕ). t ++ m.1) m.3.1) ∙ and_from (is_in_set slashes negated items m.3.0) (is_match pieces m.1) m.3.2 (complete pieces m.1 m.4)
 complete (Name ∷ pieces) path m =
     ap (after_run no_slash (is_match pieces)) m.2 ∙ run_complete no_slash (is_match pieces) m.0 m.1 (is_name m.0 m.3) (complete pieces m.1 m.4)
 complete (Folders ∷ pieces) path m = elim m.3 [

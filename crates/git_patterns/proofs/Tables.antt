@@ -32,7 +32,7 @@ last_test p path values v e f = f ∙ (ap (λ (xs : List Bool). get_or xs (lengt
 carried_end : (part : Part) (p : List ℕ → Bool) → carried_first part (p []) ≡ carried part p []
 carried_end (One c) p = refl
 carried_end Any p = refl
-carried_end (Set negated items) p = refl
+carried_end (Set slashes negated items) p = refl
 carried_end Name p = refl
 carried_end Folders p = refl
 carried_end Everything p = refl
@@ -40,7 +40,7 @@ carried_end Everything p = refl
 carried_more : (part : Part) (p : List ℕ → Bool) (b : ℕ) (rest : List ℕ) → carried_on part b (p (b ∷ rest)) (p rest) (carried part p rest) ≡ carried part p (b ∷ rest)
 carried_more (One c) p b rest = refl
 carried_more Any p b rest = refl
-carried_more (Set negated items) p b rest = refl
+carried_more (Set slashes negated items) p b rest = refl
 carried_more Name p b rest = refl
 carried_more Folders p b rest = refl
 carried_more Everything p b rest = refl
@@ -48,7 +48,7 @@ carried_more Everything p b rest = refl
 value_is : (part : Part) (p : List ℕ → Bool) (text : List ℕ) → value_of part (p text) (carried part p text) ≡ after_piece part p text
 value_is (One c) p text = refl
 value_is Any p text = refl
-value_is (Set negated items) p text = refl
+value_is (Set slashes negated items) p text = refl
 value_is Name p text = refl
 value_is Folders p text = refl
 value_is Everything p text = refl

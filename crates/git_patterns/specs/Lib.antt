@@ -1,6 +1,8 @@
 pub mod Items
 pub mod Patterns
+pub mod Rows
 pub mod Sets
+pub mod Styles
 pub mod Tables
 pub mod Text
 pub mod Views

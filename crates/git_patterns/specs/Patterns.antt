@@ -26,7 +26,7 @@ abbrev pub escaped_at : List ℕ → Option (Part × List ℕ)
 escaped_at rest = option_map (λ x. (One x.0, x.1)) (byte_at rest)
 
 abbrev pub set_part_at : Bool → List ℕ → Option (Part × List ℕ)
-set_part_at negated bytes = option_map (λ x. (Set negated x.0, x.1)) (set_at bytes)
+set_part_at negated bytes = option_map (λ x. (Set false negated x.0, x.1)) (set_at bytes)
 
 -- A `!` or a `^` that comes first negates a set.
 abbrev pub any_set_at : List ℕ → Option (Part × List ℕ)

@@ -59,9 +59,10 @@ abbrev pub is_in_item : ℕ → Item → Bool
 is_in_item b (Range first last) = b == first || is_between first last b
 is_in_item b (Named class) = is_in_class class b
 
--- A set has each byte of its items, or if it is negated each other byte. It never has a slash.
-abbrev pub is_in_set : Bool → List Item → ℕ → Bool
-is_in_set negated items b = if b == 47 then false else (if negated then not (list_any (is_in_item b) items) else list_any (is_in_item b) items)
+-- A set has each byte of its items, or if it is negated each other byte. It has a slash only if it may have one.
+abbrev pub is_in_set : Bool → Bool → List Item → ℕ → Bool
+is_in_set slashes negated items b =
+    if b == 47 && not slashes then false else (if negated then not (list_any (is_in_item b) items) else list_any (is_in_item b) items)
 
 -- ---- the text of a set
 

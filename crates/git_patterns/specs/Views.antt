@@ -2,6 +2,7 @@
 use Rattle.std.specs.Prelude.{List, map}
 use Rattle.git_patterns.specs.declared.pattern.Pattern.{Pattern}
 use Rattle.git_patterns.specs.declared.piece.Piece.{Piece}
+use Rattle.git_patterns.specs.declared.wildcards.Wildcards.{Wildcards}
 use Rattle.git_patterns.specs.declared.piece.Piece.TheVariants.{Byte, Any as AnyPiece, Set as SetPiece, Name as NamePiece, Folders as FoldersPiece, Everything as EverythingPiece}
 use Rattle.git_patterns.specs.Wildmatch.{Part, One, Any, Set, Name, Folders, Everything}
 
@@ -9,7 +10,7 @@ use Rattle.git_patterns.specs.Wildmatch.{Part, One, Any, Set, Name, Folders, Eve
 abbrev pub part_of : Piece → Part
 part_of (Byte c) = One c
 part_of AnyPiece = Any
-part_of (SetPiece negated items) = Set negated items.items
+part_of (SetPiece slashes negated items) = Set slashes negated items.items
 part_of NamePiece = Name
 part_of FoldersPiece = Folders
 part_of EverythingPiece = Everything
@@ -17,3 +18,7 @@ part_of EverythingPiece = Everything
 -- The parts of a pattern of the code.
 abbrev pub pattern_parts : Pattern → List Part
 pattern_parts p = map part_of p.pieces.items
+
+-- The parts of a pathspec's pattern.
+abbrev pub wildcard_parts : Wildcards → List Part
+wildcard_parts w = map part_of w.pieces.items

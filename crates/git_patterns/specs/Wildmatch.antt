@@ -10,8 +10,8 @@ pub data Part : Type 0 where
   One : ℕ → Part
   -- `?`
   Any : Part
-  -- `[..]`, or `[!..]` if it is negated.
-  Set : (negated : Bool) → (items : List Item) → Part
+  -- `[..]`, or `[!..]` if it is negated. It may have a slash or not.
+  Set : (slashes : Bool) → (negated : Bool) → (items : List Item) → Part
   -- `*`
   Name : Part
   -- `**/`
@@ -24,7 +24,7 @@ pub data Part : Type 0 where
 abbrev pub Spells : Part → List ℕ → Type 0
 Spells (One c) text = text ≡ c ∷ []
 Spells Any text = (b : ℕ) × (text ≡ b ∷ []) × (b ≢ 47)
-Spells (Set negated items) text = (b : ℕ) × (text ≡ b ∷ []) × (is_in_set negated items b ≡ true)
+Spells (Set slashes negated items) text = (b : ℕ) × (text ≡ b ∷ []) × (is_in_set slashes negated items b ≡ true)
 Spells Name text = AllByRecursion (λ b. b ≢ 47) text
 Spells Folders text = (text ≡ []) ⊎ ((front : List ℕ) × (text ≡ front ++ 47 ∷ []))
 Spells Everything text = Unit {0}
@@ -64,7 +64,7 @@ any_byte b = true
 abbrev pub after_piece : Part → (List ℕ → Bool) → List ℕ → Bool
 after_piece (One c) p path = after_byte (λ b. b == c) p path
 after_piece Any p path = after_byte no_slash p path
-after_piece (Set negated items) p path = after_byte (is_in_set negated items) p path
+after_piece (Set slashes negated items) p path = after_byte (is_in_set slashes negated items) p path
 after_piece Name p path = after_run no_slash p path
 after_piece Folders p path = p path || after_slash p path
 after_piece Everything p path = after_run any_byte p path

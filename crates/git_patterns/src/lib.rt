@@ -8,10 +8,15 @@
 pub mod laws;
 pub mod pattern;
 mod piece;
+mod row;
 mod set;
 mod table;
 #[cfg(test)]
 mod tests;
 pub mod text;
+mod wildcards;
 
 pub use pattern::Pattern;
+pub use piece::literal_len;
+pub use row::MOST_PIECES;
+pub use wildcards::{Style, Wildcards};

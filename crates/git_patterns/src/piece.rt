@@ -56,7 +56,14 @@ fn set_of(alloc: Global, negated: bool, bytes: &[u8]) -> Result<Option<(Piece, &
     ensures { IfOk result (λ found. option_map (λ x. (part_of x.0, x.1.now)) found ≡ set_part_at negated bytes.now) }
 {
     match items_of(alloc, bytes)? {
-        Some((items, after)) => Ok(Some((Piece::Set { negated, items }, after))),
+        Some((items, after)) => {
+            let set = Piece::Set {
+                slashes: false,
+                negated,
+                items,
+            };
+            Ok(Some((set, after)))
+        }
         None => Ok(None),
     }
 }
@@ -64,7 +71,7 @@ fn set_of(alloc: Global, negated: bool, bytes: &[u8]) -> Result<Option<(Piece, &
 /// Reads a piece, and returns the text after it. `at_name` says whether it begins a name. None if there is none, or a
 /// backslash has nothing after it, or a set no end.
 #[tactic(auto, unfolding(crate::specs::Patterns::part_at))]
-fn piece_of(
+pub(crate) fn piece_of(
     alloc: Global,
     at_name: bool,
     pattern: &[u8],
@@ -88,7 +95,7 @@ fn piece_of(
 }
 
 /// Returns whether a name begins after a piece.
-fn begins_name(piece: &Piece) -> bool
+pub(crate) fn begins_name(piece: &Piece) -> bool
     ensures { result ≡ begins_name (part_of piece.now) }
 {
     match piece {
@@ -113,7 +120,7 @@ fn special_at(pattern: &[u8]) -> Option<usize>
 }
 
 /// Returns how many bytes of a pattern come before the first one with a meaning of its own.
-fn literal_len(pattern: &[u8]) -> usize
+pub fn literal_len(pattern: &[u8]) -> usize
     ensures { result ≡ literal_len pattern.now }
 {
     match special_at(pattern) {
@@ -163,8 +170,12 @@ pub(crate) enum Piece {
     Byte(u8),
     /// `?`: a byte of a name.
     Any,
-    /// `[..]`, or `[!..]` if it is negated: a byte of a name that the set has.
-    Set { negated: bool, items: Vec<Item> },
+    /// `[..]`, or `[!..]` if it is negated: a byte that the set has. It may have a slash or not.
+    Set {
+        slashes: bool,
+        negated: bool,
+        items: Vec<Item>,
+    },
     /// `*`: bytes of one name, or none.
     Name,
     /// `**/`: any number of folders.
@@ -187,8 +198,17 @@ pub(crate) fn is_match(pieces: &[Piece], path: &[u8]) -> bool
             [byte, after @ ..] => *byte != b'/' && is_match(rest, after),
             [] => false,
         },
-        [Piece::Set { negated, items }, rest @ ..] => match path {
-            [byte, after @ ..] => is_in_set(*negated, items, *byte) && is_match(rest, after),
+        [
+            Piece::Set {
+                slashes,
+                negated,
+                items,
+            },
+            rest @ ..,
+        ] => match path {
+            [byte, after @ ..] => {
+                is_in_set(*slashes, *negated, items, *byte) && is_match(rest, after)
+            }
             [] => false,
         },
         [Piece::Name, rest @ ..] => {

@@ -104,11 +104,11 @@ fn is_in_any(items: &[Item], byte: u8) -> bool
     items.iter().any(|item| is_in_item(*item, byte))
 }
 
-/// Returns whether a set has a byte: if it isn't negated, an item has it. No set has a slash.
-pub(crate) fn is_in_set(negated: bool, items: &[Item], byte: u8) -> bool
-    ensures { result ≡ is_in_set negated items.now byte }
+/// Returns whether a set has a byte: if it isn't negated, an item has it. `slashes` is whether it may have a slash.
+pub(crate) fn is_in_set(slashes: bool, negated: bool, items: &[Item], byte: u8) -> bool
+    ensures { result ≡ is_in_set slashes negated items.now byte }
 {
-    if byte == b'/' {
+    if byte == b'/' && !slashes {
         false
     } else if negated {
         !is_in_any(items, byte)

@@ -10,7 +10,7 @@ use crate::set::is_in_set;
 use std::alloc::{AllocError, Global};
 
 /// Returns what a pass carries at the empty suffix, by whether that matches what follows the piece.
-fn carried_first(piece: &Piece, here: bool) -> bool
+pub(crate) fn carried_first(piece: &Piece, here: bool) -> bool
     ensures { result ≡ carried_first (part_of piece.now) here }
 {
     match piece {
@@ -21,13 +21,17 @@ fn carried_first(piece: &Piece, here: bool) -> bool
 
 /// Returns what a pass carries from a byte on, by whether the suffix from that byte (`here`), and the one after it (`after`),
 /// match what follows the piece.
-fn carried_on(piece: &Piece, byte: u8, here: bool, after: bool, carry: bool) -> bool
+pub(crate) fn carried_on(piece: &Piece, byte: u8, here: bool, after: bool, carry: bool) -> bool
     ensures { result ≡ carried_on (part_of piece.now) byte here after carry }
 {
     match piece {
         Piece::Byte(wanted) => byte == *wanted && after,
         Piece::Any => byte != b'/' && after,
-        Piece::Set { negated, items } => is_in_set(*negated, items, byte) && after,
+        Piece::Set {
+            slashes,
+            negated,
+            items,
+        } => is_in_set(*slashes, *negated, items, byte) && after,
         Piece::Name => here || byte != b'/' && carry,
         Piece::Folders => byte == b'/' && after || carry,
         Piece::Everything => here || carry,
@@ -35,7 +39,7 @@ fn carried_on(piece: &Piece, byte: u8, here: bool, after: bool, carry: bool) -> 
 }
 
 /// Returns whether a suffix matches a piece and what follows it: that is carried, but `**/` may also be no folder.
-fn value_of(piece: &Piece, here: bool, carry: bool) -> bool
+pub(crate) fn value_of(piece: &Piece, here: bool, carry: bool) -> bool
     ensures { result ≡ value_of (part_of piece.now) here carry }
 {
     match piece {

@@ -20,10 +20,11 @@ head_unfound trees.MixedHash = inr (inl (trees.MixedHash, refl))
 head_unfound trees.ManyItems = inr (inl (trees.ManyItems, refl))
 head_unfound trees.TooDeep = inr (inl (trees.TooDeep, refl))
 
--- a folder can't be read
+-- a folder or an ignore file can't be read
 pub folders_unfound : (fault : FolderFault) → IsUnfound (failure_of_folders fault)
 folders_unfound folders.Memory = inl refl
 folders_unfound (folders.At path fault) = inr (inr (folders.At path fault, refl))
+folders_unfound (folders.IgnoreFile path fault) = inr (inr (folders.IgnoreFile path fault, refl))
 folders_unfound folders.TooDeep = inr (inr (folders.TooDeep, refl))
 
 -- the lines of rows that follow others

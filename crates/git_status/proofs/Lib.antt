@@ -12,5 +12,6 @@ pub mod RefreshedVerdicts
 pub mod Refreshing
 pub mod Runs
 pub mod Selected
+pub mod Sent
 pub mod Shown
 pub mod Unmerged

@@ -38,6 +38,7 @@ failure_of_head trees.TooDeep = Head trees.TooDeep
 abbrev pub failure_of_folders : FolderFault → Failure
 failure_of_folders folders.Memory = Memory
 failure_of_folders (folders.At path fault) = Untracked (folders.At path fault)
+failure_of_folders (folders.IgnoreFile path fault) = Untracked (folders.IgnoreFile path fault)
 failure_of_folders folders.TooDeep = Untracked folders.TooDeep
 
 -- The failure for attribute files.

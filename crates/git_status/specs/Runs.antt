@@ -78,7 +78,7 @@ IsWrongChecksum kind bytes f = (f ≡ Index Checksum) × (EndsWithChecksum kind 
 abbrev pub IsHeadUnread : Failure → Type 0
 IsHeadUnread f = (fault : TreeFault) × (f ≡ Head fault)
 
--- A folder in which untracked files are searched for can't be read.
+-- A folder in which untracked files are searched for, or an ignore file of the index, can't be read.
 abbrev pub IsUntrackedUnread : Failure → Type 0
 IsUntrackedUnread f = (fault : FolderFault) × (f ≡ Untracked fault)
 

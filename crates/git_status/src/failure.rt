@@ -34,7 +34,7 @@ pub enum Failure {
         /// Why it isn't read.
         fault: ObjectFault,
     },
-    /// A folder in which untracked files are searched for can't be read.
+    /// A folder in which untracked files are searched for, or an ignore file of the index, can't be read.
     Untracked(FolderFault),
     /// The output takes no more.
     Output(OutputError),
@@ -107,7 +107,8 @@ impl fmt::Display for Failure {
             Failure::Status(error) => write!(f, "{error}"),
             Failure::Interrupted => f.write_str("interrupted"),
             Failure::Head(fault) => write!(f, "can't read the files of HEAD: {fault}"),
-            Failure::Attributes { path, fault } => {
+            Failure::Attributes { path, fault }
+            | Failure::Untracked(FolderFault::IgnoreFile { path, fault }) => {
                 let path = Quoted { path };
                 write!(f, "can't read {path} of the index: {fault}")
             }

@@ -2,7 +2,7 @@
 
 use crate::asked::Asked;
 use crate::lines::Quoted;
-use crate::paths::{Paths, Top};
+use crate::only::OnlyPath;
 use bstr::BStr;
 use status_base::worktree::{MemoryObjects, NoFilter, NoLister, NoSubmodules, Pathspec, Worktree};
 use status_call::index_as_worktree::traits::FastEq;
@@ -89,15 +89,10 @@ where
         path: BStr<'_>,
     ) -> Option<Error> {
         let alloc = rt.alloc();
-        let top = Top {
-            path: path.as_bytes(),
-            is_folder: false,
-        };
         // A conversion of line ends fails only if reading does, so none is made here.
         let context = Context {
-            pathspec: Paths {
-                tops: &[top],
-                left_out: &State::new(alloc, index.timestamp()),
+            pathspec: OnlyPath {
+                path: path.as_bytes(),
             },
             filter: NoFilter,
             lister: NoLister,

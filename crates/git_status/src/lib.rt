@@ -4,7 +4,7 @@
 //! `status` computes the status of an index, `beside` has the searches next to it, `found` prints both and returns what was
 //! found, and `answer` has its lines and its report. `refresh` has the command with the new bytes of the index file, and
 //! `kept` the changes in them. `staged` is the first column alone. `lines` has git's lines and quoted paths, and `columns`
-//! both columns of them; `output` writes them. `paths` is a pathspec of files and folders. `watcher` stops at the first
+//! both columns of them; `output` writes them. `paths` has the selections of paths, and `only` that of one path. `watcher` stops at the first
 //! difference. `remarks` are written besides the lines, with `notes` on files that the status doesn't convert. `failure`
 //! says why the command fails, `fault_place` at which path, and `laws` what a user relies on.
 #![tactic(auto)]
@@ -21,6 +21,7 @@ mod kept;
 mod laws;
 pub mod lines;
 mod notes;
+mod only;
 mod output;
 mod paths;
 mod read;
@@ -39,8 +40,9 @@ pub use laws::{
     clean_means_no_difference, lines_are_of_all_differences, refresh_changes_own_entries,
     refresh_hides_nothing, refreshes_hide_nothing,
 };
+pub use only::OnlyPath;
 pub use output::print_failure;
-pub use paths::{Paths, Top, Tops};
+pub use paths::{Nodes, Paths};
 pub use read::ReadIndex;
 pub use refresh::{Refreshed, run_refresh};
 pub use staged::print_staged;

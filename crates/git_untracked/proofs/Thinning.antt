@@ -32,7 +32,7 @@ module _ (passed : List ℕ → Bool) (folder : List ℕ) where
 -- A path is passed over if an entry settles it.
 pub settled_passed : (q : Question) → q.all ≡ false → q.ignored ≡ false → (path : List ℕ) → is_settled (q.leads path) q.index path ≡ true → is_passed_over q path ≡ true
 settled_passed q all ignored path settled =
-    let others = not (q.selects path true || q.leads path) in
+    let others = not (q.reaches path) in
     ap (λ (x : Bool). is_settled (x || (q.ignored || q.leads path)) q.index path || others) all
     ∙ ap (λ (x : Bool). is_settled (x || q.leads path) q.index path || others) ignored
     ∙ ap (λ (x : Bool). x || others) settled

@@ -18,6 +18,8 @@ pub record Question : Type 1 where
   pub ignored : Bool
   -- Whether a path is selected. The last argument is whether it is a folder's.
   pub selects : List ℕ → Bool → Bool
+  -- Whether a node at a path, or one below it, may be selected.
+  pub reaches : List ℕ → Bool
   -- Whether a path below this one is selected by itself.
   pub leads : List ℕ → Bool
   -- The names in a folder, or None if there is no folder.
@@ -52,11 +54,11 @@ settles wanted e = is_submodule e.mode || (not wanted && stage_of e == 0)
 abbrev pub is_settled : Bool → List IndexEntry → List ℕ → Bool
 is_settled wanted es path = list_any (settles wanted) (filter (is_at path) es)
 
--- No line is at a path or below it: the path is settled, or nothing there is selected. Nodes below are wanted if all untracked files or
--- ignored nodes are, or if a path below is selected by itself.
+-- No line is at a path or below it: the path is settled, or nothing there may be selected. Nodes below are wanted if all untracked files or ignored nodes are, or if a path
+-- below is selected by itself.
 abbrev pub is_passed_over : Question → List ℕ → Bool
 is_passed_over q path =
-    is_settled (q.all || (q.ignored || q.leads path)) q.index path || not (q.selects path true || q.leads path)
+    is_settled (q.all || (q.ignored || q.leads path)) q.index path || not (q.reaches path)
 
 abbrev pub file_rules : List ℕ → Option (List ℕ) → List Rule
 file_rules folder None = []

@@ -14,8 +14,8 @@ within_view w rules = record { rules = rules; excluded = w.is_excluded; one = w.
 abbrev pub IsWay : Question → List ℕ → Bool → Bool → Way → Type 0
 IsWay q folder excluded leads ways.Each = (has_below q.index folder ≡ true) ⊎ ((has_below q.index folder ≡ false) × q.may_nest folder false × ((q.all || (leads && not excluded)) ≡ true))
 IsWay q folder excluded leads ways.Whole = (has_below q.index folder ≡ false) × q.may_nest folder false × ((q.all || (leads && not excluded)) ≡ false)
-IsWay q folder excluded leads ways.Line = (has_below q.index folder ≡ false) × q.may_nest folder true × (leads ≡ false)
-IsWay q folder excluded leads ways.Nothing = (has_below q.index folder ≡ false) × q.may_nest folder true × (leads ≡ true)
+IsWay q folder excluded leads ways.Line = (has_below q.index folder ≡ false) × q.may_nest folder true × ((leads && not excluded) ≡ false)
+IsWay q folder excluded leads ways.Nothing = (has_below q.index folder ≡ false) × q.may_nest folder true × ((leads && not excluded) ≡ true)
 
 -- The second names are the first without some whose paths in the folder are passed over.
 pub data Thins (is_passed : List ℕ → Bool) (folder : List ℕ) : List (List ℕ) → List (List ℕ) → Type 0 where

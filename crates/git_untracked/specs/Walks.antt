@@ -19,6 +19,15 @@ file_lines q is_ignored path = if is_tracked q.index path || not (q.selects path
 abbrev pub is_ignored : Within → List ℕ → Bool → Bool
 is_ignored w path is_folder = w.excluded || is_matched w.rules path is_folder
 
+-- A folder isn't entered if it is ignored and ignored nodes have no lines, or if it isn't ignored, has no entry below it, isn't selected, and no
+-- path below it is selected by itself.
+abbrev pub is_unwanted : Question → Bool → Bool → List ℕ → Bool
+is_unwanted q excluded leads path =
+    if excluded then not q.ignored else not (q.selects path true || (leads || has_below q.index (path ++ 47 ∷ [])))
+
+abbrev pub is_left_out : Question → Within → List ℕ → Bool
+is_left_out q w path = is_unwanted q (is_ignored w path true) (q.leads path) path
+
 mutual
   -- The lines of what is in a folder.
   pub data IsFolder (q : Question) : List ℕ → Within → Lines → Type 0 where
@@ -47,9 +56,9 @@ mutual
     other : (w : Within) (path : List ℕ) → q.may_be path (Some kinds.Other) → IsNode q w path no_lines
     file : (w : Within) (path : List ℕ) → is_passed_over q path ≡ false
         → q.may_be path (Some kinds.File) ⊎ q.may_be path (Some kinds.Link) → IsNode q w path (file_lines q (is_ignored w path false) path)
-    left_out : (w : Within) (path : List ℕ) → q.may_be path (Some kinds.Directory) → (is_ignored w path true && not q.ignored) ≡ true → IsNode q w path no_lines
+    left_out : (w : Within) (path : List ℕ) → q.may_be path (Some kinds.Directory) → is_left_out q w path ≡ true → IsNode q w path no_lines
     folder : (w : Within) (path : List ℕ) (lines : Lines) → is_passed_over q path ≡ false → q.may_be path (Some kinds.Directory)
-        → (is_ignored w path true && not q.ignored) ≡ false
+        → is_left_out q w path ≡ false
         → IsSubfolder q w.rules (is_ignored w path true) (q.leads path) (is_tracked q.index path) (path ++ 47 ∷ []) lines → IsNode q w path lines
 
   -- The lines of a folder that is ignored or not, below which a path is selected by itself or not, and at whose path is an entry or not. With
@@ -59,7 +68,7 @@ mutual
     with_entries : (rules : List Rule) (excluded leads tracked : Bool) (folder : List ℕ) (lines : Lines) → has_below q.index folder ≡ true
         → IsFolder q folder (record { rules = rules; excluded = excluded; one = false }) lines → IsSubfolder q rules excluded leads tracked folder lines
     repository : (rules : List Rule) (excluded leads tracked : Bool) (folder : List ℕ) → has_below q.index folder ≡ false → q.may_nest folder true
-        → IsSubfolder q rules excluded leads tracked folder (if leads then no_lines else own_line tracked folder excluded)
+        → IsSubfolder q rules excluded leads tracked folder (if leads && not excluded then no_lines else own_line tracked folder excluded)
     each : (rules : List Rule) (excluded leads tracked : Bool) (folder : List ℕ) (lines : Lines) → has_below q.index folder ≡ false → q.may_nest folder false
         → (q.all || (leads && not excluded)) ≡ true → IsFolder q folder (record { rules = rules; excluded = excluded; one = false }) lines
         → IsSubfolder q rules excluded leads tracked folder lines

@@ -23,11 +23,11 @@ pub enum Way {
 
 /// Takes the questions of a walk. A folder's path ends in a slash, except that of the worktree's top, which is empty.
 pub trait Ask {
-    ghost use Rattle.std.specs.Prelude.{◌≡◌, ◌&&◌, ◌||◌, ◌++◌, ◌<◌, not, IfOk, OnOk, List, ℕ, Option, length, option_map};
+    ghost use Rattle.std.specs.Prelude.{◌≡◌, ◌&&◌, ◌||◌, ◌++◌, ◌∷◌, ◌<◌, [], not, true, IfOk, OnOk, List, ℕ, Option, length, option_map};
     ghost use Rattle.git_ignore.specs.Views.{rules_view};
     ghost use Rattle.status_walk.specs.Untracked.{is_tracked};
     ghost use Rattle.git_untracked.specs.Lines.{and_lines, lines_view, paths_of};
-    ghost use Rattle.git_untracked.specs.Questions.{file_rules, is_passed_over};
+    ghost use Rattle.git_untracked.specs.Questions.{file_rules, has_below, is_passed_over};
     ghost use Rattle.git_untracked.specs.Requests.{IsWay, Thins};
     ghost use Rattle.git_untracked.specs.Walks.{file_lines};
 
@@ -88,6 +88,17 @@ pub trait Ask {
     /// Returns whether an entry has this path.
     fn has_entry(&self, path: &[u8]) -> bool
         ensures { result ≡ is_tracked (question self.now).index path.now };
+
+    /// Returns whether a folder's path is selected.
+    fn selects_folder(&self, path: &[u8]) -> bool
+        ensures { result ≡ (question self.now).selects path.now true };
+
+    /// Returns whether an entry is below this path.
+    ///
+    /// # Errors
+    /// Out of memory.
+    fn has_entry_below(&self, path: &[u8]) -> Result<bool, FolderFault>
+        ensures { IfOk result (λ it. it ≡ has_below (question self.now).index (path.now ++ 47 ∷ [])) };
 
     /// Returns whether a path below this one is selected by itself.
     fn leads(&self, path: &[u8]) -> bool

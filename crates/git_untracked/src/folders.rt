@@ -1,10 +1,14 @@
 //! The questions that a walk asks of a worktree.
 
 use bstr::BStr;
+use git_objects::ObjectFault;
 use status_base::worktree::NodeKind;
 use status_index::{Fault, State};
 use std::alloc::{AllocError, Global};
 use thiserror::Error;
+
+/// The name of ignore files.
+pub(crate) const IGNORE_FILE: &[u8] = b".gitignore";
 
 /// The folders of a worktree, and what git asks of them to find untracked files. Paths are from the worktree's top, with `/`
 /// between components. The path of the top is empty.
@@ -43,13 +47,13 @@ pub trait Folders {
     /// and the index may have a file in place of one that isn't.
     ///
     /// # Errors
-    /// It can't be read, or out of memory.
+    /// The object of the index's file can't be read, or out of memory.
     fn ignore_file(
         &self,
         index: &State,
         folder: BStr<'_>,
         is_there: bool,
-    ) -> Result<Option<Vec<u8>>, Fault>
+    ) -> Result<Option<Vec<u8>>, ObjectFault>
         ensures { IfOk result (λ bytes. may_ignore self.now (bstr_bytes folder.entry) (option_map (λ v. v.items) bytes)) };
 
     /// Returns whether a folder is the top of another repository.
@@ -70,6 +74,14 @@ pub enum FolderFault {
         path: Vec<u8>,
         /// The fault.
         fault: Fault,
+    },
+    /// The object of an ignore file that is only in the index can't be read.
+    #[error("{fault}")]
+    IgnoreFile {
+        /// The file's path.
+        path: Vec<u8>,
+        /// Why it isn't read.
+        fault: ObjectFault,
     },
     /// More than 1,024 folders are within each other.
     #[error("more than 1,024 folders are within each other")]
@@ -93,4 +105,22 @@ impl FolderFault {
             (fault, Ok(path)) => FolderFault::At { path, fault },
         }
     }
+
+    /// Returns the fault of a folder's ignore file.
+    pub(crate) fn of_ignore_file(alloc: Global, folder: &[u8], fault: ObjectFault) -> FolderFault {
+        match (fault, ignore_path(alloc, folder)) {
+            (ObjectFault::Memory, _) | (_, Err(_)) => FolderFault::Memory,
+            (fault, Ok(path)) => FolderFault::IgnoreFile { path, fault },
+        }
+    }
+}
+
+/// Returns the path of a folder's ignore file.
+///
+/// # Errors
+/// Out of memory.
+fn ignore_path(alloc: Global, folder: &[u8]) -> Result<Vec<u8>, AllocError> {
+    let mut path = Vec::from_slice(alloc, folder)?;
+    path.extend_from_slice(IGNORE_FILE)?;
+    Ok(path)
 }

@@ -10,7 +10,7 @@ ghost use Rattle.git_untracked.specs.Questions.{has_below, is_settled, settles};
 ghost use Rattle.git_untracked.specs.Requests.{Thins};
 
 use crate::ask::{Ask, Way};
-use crate::folders::{FolderFault, Folders};
+use crate::folders::{FolderFault, Folders, IGNORE_FILE};
 use crate::lines::Lines;
 use crate::selection::Selection;
 use bstr::BStr;
@@ -22,9 +22,6 @@ use status_walk::untracked::is_tracked;
 use std::alloc::{AllocError, Global};
 use std::cmp::Ordering;
 use std::ops::Range;
-
-/// The name of ignore files.
-const IGNORE_FILE: &[u8] = b".gitignore";
 
 /// The request of a walk: a worktree, the index that it is compared with, and which lines are wanted.
 #[derive(Drop)]
@@ -49,6 +46,7 @@ impl<F: Folders, P: Selection> Ask for Request<'_, F, P> {
       all = r.all;
       ignored = r.ignored;
       selects = P.selects r.paths.now;
+      reaches = P.reaches r.paths.now;
       leads = P.leads r.paths.now;
       may_list = F.may_list r.folders.now;
       may_be = F.may_be r.folders.now;
@@ -80,7 +78,7 @@ impl<F: Folders, P: Selection> Ask for Request<'_, F, P> {
         {
             Ok(Some(bytes)) => Ok(rules.read(self.alloc, folder, &bytes)?),
             Ok(None) => Ok(()),
-            Err(fault) => Err(FolderFault::at(self.alloc, folder, fault)),
+            Err(fault) => Err(FolderFault::of_ignore_file(self.alloc, folder, fault)),
         }
     }
 
@@ -104,8 +102,7 @@ impl<F: Folders, P: Selection> Ask for Request<'_, F, P> {
     fn passes_over(&self, path: &[u8]) -> bool {
         let path = BStr::new(path);
         let leads = self.paths.leads(path);
-        is_settled(self.index, path, self.all || self.ignored || leads)
-            || !(self.paths.selects(path, true) || leads)
+        is_settled(self.index, path, self.all || self.ignored || leads) || !self.paths.reaches(path)
     }
 
     fn kind_at(&self, path: &[u8]) -> Result<Option<NodeKind>, FolderFault> {
@@ -132,6 +129,16 @@ impl<F: Folders, P: Selection> Ask for Request<'_, F, P> {
         is_tracked(self.index, BStr::new(path))
     }
 
+    fn selects_folder(&self, path: &[u8]) -> bool {
+        self.paths.selects(BStr::new(path), true)
+    }
+
+    fn has_entry_below(&self, path: &[u8]) -> Result<bool, FolderFault> {
+        let mut folder = Vec::from_slice(self.alloc, path)?;
+        folder.extend_from_slice(b"/")?;
+        Ok(has_below(self.index, &folder))
+    }
+
     fn leads(&self, path: &[u8]) -> bool {
         self.paths.leads(BStr::new(path))
     }
@@ -145,7 +152,7 @@ impl<F: Folders, P: Selection> Ask for Request<'_, F, P> {
             return Ok(Way::Each);
         }
         match self.folders.is_repository(BStr::new(folder)) {
-            Ok(true) if leads => Ok(Way::Nothing),
+            Ok(true) if leads && !is_excluded => Ok(Way::Nothing),
             Ok(true) => Ok(Way::Line),
             Ok(false) if self.all || (leads && !is_excluded) => Ok(Way::Each),
             Ok(false) => Ok(Way::Whole),

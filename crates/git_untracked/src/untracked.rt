@@ -69,6 +69,7 @@ impl<F: Folders, P: Selection> FindUntracked for Untracked<'_, F, P> {
       all = u.all;
       ignored = u.ignored;
       selects = P.selects u.paths;
+      reaches = P.reaches u.paths;
       leads = P.leads u.paths;
       may_list = F.may_list u.folders.now;
       may_be = F.may_be u.folders.now;

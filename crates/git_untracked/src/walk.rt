@@ -1,12 +1,12 @@
 //! The walk through the folders of a worktree.
 
-ghost use Rattle.std.specs.Prelude.{◌≡◌, ◌<◌, ◌++◌, ◌&&◌, ◌||◌, not, IfOk, List, OnOk, length};
+ghost use Rattle.std.specs.Prelude.{◌≡◌, ◌<◌, ◌++◌, ◌&&◌, ◌||◌, not, true, IfOk, List, OnOk, length};
 ghost use Rattle.git_ignore.specs.Rules.{Rule};
 ghost use Rattle.git_ignore.specs.Views.{rules_view};
 ghost use Rattle.git_untracked.specs.Lines.{lines_view, paths_of};
 ghost use Rattle.git_untracked.specs.Requests.{IsAdded, within_view};
 ghost use Rattle.git_untracked.specs.Questions.{HasRules, is_special};
-ghost use Rattle.git_untracked.specs.Walks.{AreNodes, IsFolder, IsNamed, IsNode, IsSubfolder, is_ignored};
+ghost use Rattle.git_untracked.specs.Walks.{AreNodes, IsFolder, IsNamed, IsNode, IsSubfolder, is_ignored, is_unwanted};
 
 use crate::ask::{Ask, Way};
 use crate::folders::FolderFault;
@@ -16,7 +16,7 @@ use git_patterns::text::is_word;
 use status_base::worktree::NodeKind;
 use std::alloc::AllocError;
 
-/// The most folders within each other, so that the calls for them fit on the stack of a thread, which has 8 MiB.
+/// The most folders within each other, so that the calls for them fit on the stack of a thread.
 pub(crate) const MOST_FOLDERS: usize = 1024;
 
 /// How a folder is walked.
@@ -150,10 +150,11 @@ fn walk_node<Q: Ask>(
         }
         NodeKind::Directory => {
             let is_excluded = excludes(ask, within, rules, path, true)?;
-            if leaves_out(ask, is_excluded) {
+            let leads = ask.leads(path);
+            if leaves_out(ask, is_excluded, leads, path)? {
                 return Ok(());
             }
-            let (leads, has_entry) = (ask.leads(path), ask.has_entry(path));
+            let has_entry = ask.has_entry(path);
             let len = path.len();
             path.extend_from_slice(b"/")?;
             walk_subfolder(
@@ -233,11 +234,25 @@ fn excludes<Q: Ask>(
     Ok(within.is_excluded || rules.is_matched(ask.alloc(), path, is_folder)?)
 }
 
-/// Returns whether a folder isn't entered, since it is ignored and ignored nodes have no lines.
-fn leaves_out<Q: Ask>(ask: &Q, is_excluded: bool) -> bool
-    ensures { result ≡ (is_excluded && not (Q.question ask.now).ignored) }
+/// Returns whether a folder isn't entered, which is ignored or not. `leads` is whether a path below it is selected by itself.
+///
+/// # Errors
+/// Out of memory.
+fn leaves_out<Q: Ask>(
+    ask: &Q,
+    is_excluded: bool,
+    leads: bool,
+    path: &[u8],
+) -> Result<bool, FolderFault>
+    ensures { IfOk result (λ it. it ≡ is_unwanted (Q.question ask.now) is_excluded leads path.now) }
 {
-    is_excluded && !ask.wants_ignored()
+    if is_excluded {
+        Ok(!ask.wants_ignored())
+    } else if ask.selects_folder(path) || leads {
+        Ok(false)
+    } else {
+        Ok(!ask.has_entry_below(path)?)
+    }
 }
 
 /// Returns whether the first line is enough of a folder whose line replaces those of what is in it.

@@ -1,4 +1,4 @@
-use Rattle.std.proofs.Common.{◌⊎◌, Some, ◌∙◌, ◌++◌, ◌∷◌, ◌&&◌, [], true, false, not, if◌then◌else◌, inl, inr, refl, sym, ap, subst}
+use Rattle.std.proofs.Common.{◌≡◌, ◌⊎◌, Some, ◌∙◌, ◌++◌, ◌∷◌, [], true, false, if◌then◌else◌, inl, inr, refl, sym, ap, subst}
 use Rattle.status_index.specs.declared.stat.NodeKind.TheVariants as kinds
 use Rattle.status_walk.specs.Untracked.{is_tracked}
 use Rattle.std.proofs.lemmas.Result.{on_ok_weaker}
@@ -6,7 +6,7 @@ use Rattle.git_ignore.specs.Views.{rules_view}
 use Rattle.git_untracked.specs.Lines.{collapsed, lines_view, no_lines, own_line, paths_of}
 use Rattle.git_untracked.specs.Questions.{Within, is_passed_over}
 use Rattle.git_untracked.specs.Requests.{Thins, within_view}
-use Rattle.git_untracked.specs.Walks.{AreNodes, IsFolder, IsNamed, IsNode, IsSubfolder, file_lines, is_ignored}
+use Rattle.git_untracked.specs.Walks.{AreNodes, IsFolder, IsNamed, IsNode, IsSubfolder, file_lines, is_ignored, is_left_out}
 use Rattle.git_untracked.proofs.Thinning.{thins_nodes}
 use Rattle.git_untracked.proofs.Walking.{added_as, added_none, no_paths, not_true, so_far_end, so_far_enough, so_far_more, so_far_start, split_paths}
 use Rattle.git_untracked.proofs.walk.+walk.Goals as goal
@@ -98,14 +98,15 @@ walk_node-returns-in-None-clause-lines g t c =
     let w = within_view c.args.within (rules_view c.args.rules.now) in
     added_none (IsNode q w c.args.path.now.items) _ _ refl (IsNode.nothing w c.args.path.now.items (rw (c.in-None.is, c.deref-2.ensures.value) at c.in_ok-kind.ensures))
 
-pub walk_node-returns-then-leaves_out-clause-lines : goal.walk_node-returns-then-leaves_out-clause-lines
-walk_node-returns-then-leaves_out-clause-lines g t c =
+pub walk_node-returns-then-branch-clause-lines : goal.walk_node-returns-then-branch-clause-lines
+walk_node-returns-then-branch-clause-lines g t c =
     let q = g.Q.Ask.question c.args.ask.now in
+    let path = c.args.path.now.items in
     let w = within_view c.args.within (rules_view c.args.rules.now) in
     let kind = rw (c.in-Some.is, c.in-Directory.is, c.deref-2.ensures.value) at c.in_ok-kind.ensures in
     let excluded = rw c.deref-in-Directory.ensures.value at c.in_ok-is_excluded-in-Directory.ensures in
-    let left = sym (ap (λ x. x && not q.ignored) excluded) ∙ (sym c.leaves_out.ensures ∙ c.if-leaves_out.true) in
-    added_none (IsNode q w c.args.path.now.items) _ _ refl (IsNode.left_out w c.args.path.now.items kind left)
+    let left : is_left_out q w path ≡ true = rw (excluded, c.leads-leads.ensures, c.deref-in-Directory-2.ensures.value, c.deref-in-Directory-3.ensures.value) at (sym c.in_ok-leaves_out-in-Directory.ensures ∙ c.if-branch.true) in
+    added_none (IsNode q w path) _ _ refl (IsNode.left_out w path kind left)
 
 pub walk_node-returns-in-Other-clause-lines : goal.walk_node-returns-in-Other-clause-lines
 walk_node-returns-in-Other-clause-lines g t c =
@@ -136,9 +137,9 @@ walk_node-returns-in_ok-walk_subfolder-in-Directory-clause-lines g t c =
     let w = within_view c.args.within (rules_view c.args.rules.now) in
     let kind = rw (c.in-Some.is, c.in-Directory.is, c.deref-2.ensures.value) at c.in_ok-kind.ensures in
     let excluded = rw c.deref-in-Directory.ensures.value at c.in_ok-is_excluded-in-Directory.ensures in
-    let kept = sym (ap (λ x. x && not q.ignored) excluded) ∙ (sym c.leaves_out.ensures ∙ c.if-leaves_out.false) in
+    let kept : is_left_out q w path ≡ false = rw (excluded, c.leads-leads.ensures, c.deref-in-Directory-2.ensures.value, c.deref-in-Directory-3.ensures.value) at (sym c.in_ok-leaves_out-in-Directory.ensures ∙ c.if-branch.false) in
     let passed = rw c.deref.ensures.value at (sym c.passes_over.ensures ∙ c.if-passes_over.false) in
-    let below = rw (excluded, c.leads-leads.ensures, c.has_entry-has_entry.ensures, c.deref-in-Directory-2.ensures.value, c.deref-in-Directory-3.ensures.value, c.in_ok-extend_from_slice-in-Directory.ensures.items) at c.in_ok-walk_subfolder-in-Directory.ensures.lines in
+    let below = rw (excluded, c.leads-leads.ensures, c.has_entry-has_entry.ensures, c.deref-in-Directory-2.ensures.value, c.deref-in-Directory-4.ensures.value, c.in_ok-extend_from_slice-in-Directory.ensures.items) at c.in_ok-walk_subfolder-in-Directory.ensures.lines in
     added_as (IsSubfolder q w.rules (is_ignored w path true) (q.leads path) (is_tracked q.index path) (path ++ 47 ∷ [])) (IsNode q w path) _ _
     (λ lines subfolder. IsNode.folder w path lines passed kind kept subfolder) below
 

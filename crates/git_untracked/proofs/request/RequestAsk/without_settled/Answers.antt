@@ -15,6 +15,7 @@ returns-in_ok-thin-in-Some g c =
       all = r.all;
       ignored = r.ignored;
       selects = g.P.Selection.selects r.paths.now;
+      reaches = g.P.Selection.reaches r.paths.now;
       leads = g.P.Selection.leads r.paths.now;
       may_list = g.F.Folders.may_list r.folders.now;
       may_be = g.F.Folders.may_be r.folders.now;

@@ -5,9 +5,9 @@ use status_base::worktree::Pathspec;
 
 /// Selects the entries of one path.
 #[derive(Clone, Copy)]
-pub(crate) struct OnlyPath<'p> {
+pub struct OnlyPath<'p> {
     /// The path.
-    pub(crate) path: &'p [u8],
+    pub path: &'p [u8],
 }
 
 impl Pathspec for OnlyPath<'_> {
