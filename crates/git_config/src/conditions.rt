@@ -1,5 +1,9 @@
 //! The conditions of `includeIf`, and the patterns that they have.
 
+ghost use Rattle.std.specs.Prelude.{◌≡◌, IfOk, false};
+ghost use Rattle.std.specs.List.{list_any};
+ghost use Rattle.git_config.specs.Conditions.{answer, is_cased, with_all_below};
+
 use git_patterns::text::ends_in_slash;
 use git_patterns::{MOST_PIECES, Style, Wildcards};
 use std::alloc::{AllocError, Global};
@@ -50,7 +54,9 @@ pub fn is_on_branch(
     alloc: Global,
     pattern: &[u8],
     branch: &[u8],
-) -> Result<Option<bool>, AllocError> {
+) -> Result<Option<bool>, AllocError>
+    ensures { IfOk result (λ it. it ≡ answer false (with_all_below pattern.now) branch.now) }
+{
     let pattern = with_all_below(alloc, pattern)?;
     is_match(alloc, &pattern, branch, false)
 }
@@ -59,7 +65,9 @@ pub fn is_on_branch(
 ///
 /// # Errors
 /// Out of memory.
-pub(crate) fn with_all_below(alloc: Global, pattern: &[u8]) -> Result<Vec<u8>, AllocError> {
+pub(crate) fn with_all_below(alloc: Global, pattern: &[u8]) -> Result<Vec<u8>, AllocError>
+    ensures { IfOk result (λ it. it.items ≡ with_all_below pattern.now) }
+{
     let mut all = Vec::from_slice(alloc, pattern)?;
     if ends_in_slash(pattern) {
         all.extend_from_slice(b"**")?;
@@ -77,7 +85,9 @@ pub fn is_match(
     pattern: &[u8],
     text: &[u8],
     folds_case: bool,
-) -> Result<Option<bool>, AllocError> {
+) -> Result<Option<bool>, AllocError>
+    ensures { IfOk result (λ it. it ≡ answer folds_case pattern.now text.now) }
+{
     if pattern.len() > MOST_PIECES || folds_case && has_cased(pattern) {
         return Ok(None);
     }
@@ -92,8 +102,8 @@ pub fn is_match(
 }
 
 /// Returns whether a pattern has a set or a backslash, after which letters have a case.
-fn has_cased(pattern: &[u8]) -> bool {
-    pattern
-        .iter()
-        .any(|byte| *byte == b'[' || *byte == b'\\')
+fn has_cased(pattern: &[u8]) -> bool
+    ensures { result ≡ list_any is_cased pattern.now }
+{
+    pattern.iter().any(|byte| *byte == b'[' || *byte == b'\\')
 }

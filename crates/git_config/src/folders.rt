@@ -1,15 +1,20 @@
 //! The patterns of the condition `gitdir:`.
 
+ghost use Rattle.std.specs.Prelude.{◌≡◌, IfOk, option_map};
+ghost use Rattle.git_config.specs.Conditions.{anywhere, folder_answer, folders_of, is_beside, is_same};
+ghost use Rattle.git_config.specs.Views.{folders_view};
+
 use crate::conditions::{is_match, with_all_below};
+use git_patterns::text::begins_with;
 use std::alloc::{AllocError, Global};
 
 /// A pattern of a repository's folder.
 #[derive(Debug, Drop)]
 pub struct FolderPattern {
-    // The whole pattern.
-    text: Vec<u8>,
-    // How many bytes at its beginning match themselves, also if they are wildcards.
-    literal_len: usize,
+    // What a path begins with, in which no byte is a wildcard.
+    front: Vec<u8>,
+    // The pattern of the rest of a path.
+    pattern: Vec<u8>,
     // Whether letters match in either case.
     folds_case: bool,
 }
@@ -27,26 +32,25 @@ impl FolderPattern {
         text: &[u8],
         folds_case: bool,
         folder: Option<&[u8]>,
-    ) -> Result<Option<FolderPattern>, AllocError> {
-        let mut whole = Vec::new(alloc);
-        let mut literal_len = 0;
-        if let Some(below) = text.strip_prefix(b"./") {
+    ) -> Result<Option<FolderPattern>, AllocError>
+        ensures { IfOk result (λ found. option_map folders_view found ≡ folders_of folds_case text.now (option_map (λ it. it.now) folder.entry)) }
+    {
+        let (front, pattern) = if is_beside(text) {
             let Some(folder) = folder else {
                 return Ok(None);
             };
-            whole.extend_from_slice(folder)?;
-            whole.push(b'/')?;
-            literal_len = whole.len();
-            whole.extend_from_slice(below)?;
+            let below = text.get(1..).unwrap_or(b"");
+            (
+                Vec::from_slice(alloc, folder)?,
+                with_all_below(alloc, below)?,
+            )
         } else {
-            if !text.starts_with(b"/") {
-                whole.extend_from_slice(b"**/")?;
-            }
-            whole.extend_from_slice(text)?;
-        }
+            let pattern = anywhere(alloc, text)?;
+            (Vec::new(alloc), with_all_below(alloc, &pattern)?)
+        };
         Ok(Some(FolderPattern {
-            text: with_all_below(alloc, &whole)?,
-            literal_len,
+            front,
+            pattern,
             folds_case,
         }))
     }
@@ -56,20 +60,48 @@ impl FolderPattern {
     ///
     /// # Errors
     /// Out of memory.
-    pub fn is_match(&self, alloc: Global, path: &[u8]) -> Result<Option<bool>, AllocError> {
-        let (front, pattern) = self.text.split_at(self.literal_len.min(self.text.len()));
-        let Some((begin, rest)) = path.split_at_checked(front.len()) else {
-            return Ok(Some(false));
-        };
-        let is_below = if self.folds_case {
-            begin.eq_ignore_ascii_case(front)
-        } else {
-            begin == front
-        };
-        if is_below {
-            is_match(alloc, pattern, rest, self.folds_case)
-        } else {
-            Ok(Some(false))
+    pub fn is_match(&self, alloc: Global, path: &[u8]) -> Result<Option<bool>, AllocError>
+        ensures { IfOk result (λ it. it ≡ folder_answer (folders_view self.now) path.now) }
+    {
+        let front = self.front.as_slice();
+        match path.split_at_checked(front.len()) {
+            Some((begin, rest)) if is_same(self.folds_case, begin, front) => {
+                is_match(alloc, &self.pattern, rest, self.folds_case)
+            }
+            _ => Ok(Some(false)),
         }
+    }
+}
+
+/// Returns whether a pattern begins with `./`.
+fn is_beside(text: &[u8]) -> bool
+    ensures { result ≡ is_beside text.now }
+{
+    matches!(text, [b'.', b'/', ..])
+}
+
+/// Returns a pattern that may begin at any folder, if it isn't absolute.
+///
+/// # Errors
+/// Out of memory.
+fn anywhere(alloc: Global, text: &[u8]) -> Result<Vec<u8>, AllocError>
+    ensures { IfOk result (λ it. it.items ≡ anywhere text.now) }
+{
+    let mut pattern = Vec::new(alloc);
+    if !begins_with(b'/', text) {
+        pattern.extend_from_slice(b"**/")?;
+    }
+    pattern.extend_from_slice(text)?;
+    Ok(pattern)
+}
+
+/// Returns whether two texts are the same, or differ in case alone if that doesn't count.
+fn is_same(folds_case: bool, a: &[u8], b: &[u8]) -> bool
+    ensures { result ≡ is_same folds_case a.now b.now }
+{
+    if folds_case {
+        a.eq_ignore_ascii_case(b)
+    } else {
+        a == b
     }
 }

@@ -6,7 +6,7 @@ use crate::homes::expanded;
 use crate::place::Place;
 use crate::regular::SMALL_LIMIT;
 use crate::sources::{Source, config_of};
-use git_config::{Config, Condition, Variable, condition_of, conditions};
+use git_config::{Condition, Config, Variable, condition_of, conditions};
 use std::rt::{Env, Files};
 
 /// The most files that include each other, as in git.

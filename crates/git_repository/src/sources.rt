@@ -72,10 +72,7 @@ pub fn read_outer<R: Files + Env + AllocGlobal>(
 }
 
 // Returns the path of the system's configuration file. None if the environment leaves it out.
-fn system_file<R: Env + AllocGlobal>(
-    rt: &R,
-    top: &str,
-) -> Result<Option<String>, RepositoryError> {
+fn system_file<R: Env + AllocGlobal>(rt: &R, top: &str) -> Result<Option<String>, RepositoryError> {
     if is_set(rt, "GIT_CONFIG_NOSYSTEM")? {
         return Ok(None);
     }
