@@ -8,7 +8,7 @@ use Rattle.git_patterns.specs.Text.{begins_with, below, ends_in_slash}
 use Rattle.git_patterns.specs.Wildmatch.{Part, is_match}
 use Rattle.git_patterns.specs.declared.wildcards.Style.{Style}
 
--- A set or a backslash. The letters of a set, and one after a backslash, have a case in git whatever the pattern says of case.
+-- A set or a backslash. The letters of a set, and one after a backslash, have a case in git, also if other letters have none.
 abbrev pub is_cased : ℕ → Bool
 is_cased c = c == 91 || c == 92
 
@@ -29,7 +29,7 @@ with_names folds = record { parts_names = true; folds_case = folds }
 abbrev pub answer : Bool → List ℕ → List ℕ → Option Bool
 answer folds pattern text = if is_compared folds pattern then Some (matches_parts (styled_parts_of (with_names folds) pattern) text) else None
 
--- A slash at a pattern's end stands for all that is below.
+-- With a slash at its end a pattern matches all that is below.
 abbrev pub with_all_below : List ℕ → List ℕ
 with_all_below pattern = if ends_in_slash pattern then pattern ++ codes "**" else pattern
 

@@ -19,8 +19,8 @@ pub enum Condition<'a> {
         /// Whether letters match in either case.
         folds_case: bool,
     },
-    /// `onbranch:`: the name of the branch that `HEAD` names matches. A slash at the pattern's end stands for all branches whose
-    /// names begin so.
+    /// `onbranch:`: the name of the branch that `HEAD` names matches. With a slash at its end the pattern matches all branches
+    /// whose names begin so.
     OnBranch(&'a [u8]),
     /// `hasconfig:remote.*.url:`: the URL of a remote matches.
     HasRemoteUrl(&'a [u8]),
@@ -61,7 +61,7 @@ pub fn is_on_branch(
     is_match(alloc, &pattern, branch, false)
 }
 
-/// Returns a pattern that stands for all that is below a folder, if a slash is at its end.
+/// Returns a pattern that matches all that is below a folder, if a slash is at its end.
 ///
 /// # Errors
 /// Out of memory.

@@ -68,13 +68,13 @@ impl Variable {
             .strip_prefix(b".")
     }
 
-    /// Returns whether this is `include.path`, whose value is the path of a file that is read in its place.
+    /// Returns whether this is `include.path`, whose value is the path of a file that is read there.
     pub fn is_include(&self) -> bool {
         self.is_named(b"include", None, b"path")
     }
 
-    /// Returns the condition of `includeIf.CONDITION.path`, whose value is the path of a file that is read in its place if the
-    /// condition holds. None for any other variable.
+    /// Returns the condition of `includeIf.CONDITION.path`, whose value is the path of a file that is read there if the condition
+    /// holds. None for any other variable.
     pub fn include_condition(&self) -> Option<&[u8]> {
         if self.has_name(b"path") {
             self.subsection_of(b"includeif")

@@ -11,7 +11,7 @@ use std::alloc::{AllocError, Global};
 /// A pattern of a repository's folder.
 #[derive(Debug, Drop)]
 pub struct FolderPattern {
-    // What a path begins with, in which no byte is a wildcard.
+    // The beginning of a path, in which no byte is a wildcard.
     front: Vec<u8>,
     // The pattern of the rest of a path.
     pattern: Vec<u8>,
@@ -21,7 +21,7 @@ pub struct FolderPattern {
 
 impl FolderPattern {
     /// Reads a pattern in which `~` was expanded already. One that begins with `./` is below `folder`, the folder of the file that
-    /// has it. Any other that isn't absolute may begin at any folder. A slash at the end stands for all that is below.
+    /// has it. Any other that isn't absolute may begin at any folder. With a slash at its end it matches all that is below.
     ///
     /// None for `./` without such a file.
     ///

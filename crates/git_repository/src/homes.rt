@@ -1,4 +1,4 @@
-//! The home folders of users, for which `~` stands in a path.
+//! The home folders of users, and `~` in paths.
 
 use crate::error::RepositoryError;
 use crate::files::{canonical, read_if_there, text_of, variable};
@@ -12,8 +12,8 @@ const USERS: &str = "/etc/passwd";
 // The number of the field that is the home folder, counted from 0.
 const HOME_FIELD: usize = 5;
 
-/// Returns a path with the user's home folder in place of a `~` before a slash, and that of another user of `/etc/passwd` in place
-/// of `~` and a name. None if there is no such folder, or if the path begins with git's own folder, `%(prefix)/`.
+/// Returns a path in which `~` is replaced by the user's home folder, and `~` with a name by that of another user of
+/// `/etc/passwd`. None if there is no such folder, or if the path begins with git's own folder, `%(prefix)/`.
 ///
 /// # Errors
 /// The file of users or an environment variable can't be read, or out of memory.

@@ -2,8 +2,8 @@
 
 use crate::error::RepositoryError;
 use crate::files::{read_if_there, text_of};
+use crate::folders::Folders;
 use crate::homes::expanded;
-use crate::place::Place;
 use crate::regular::SMALL_LIMIT;
 use crate::sources::{Source, config_of};
 use git_config::{Condition, Config, Variable, condition_of, conditions};
@@ -12,26 +12,26 @@ use std::rt::{Env, Files};
 /// The most files that include each other, as in git.
 const MOST_FILES: usize = 10;
 
-/// Returns the variables of sources, the later ones of which are stronger. Those of an included file stand in the place where it
-/// is included.
+/// Returns the variables of sources, the later ones of which are stronger. Those of an included file come after the variable that
+/// includes it.
 ///
 /// # Errors
 /// A file that is included can't be read, or its name can't be; a file is within more than ten others; or out of memory.
 pub fn with_includes<R: Files + Env + AllocGlobal>(
     rt: &R,
-    place: &Place<'_>,
+    folders: &Folders,
     sources: &[Source],
 ) -> Result<Config, RepositoryError> {
-    let mut first = Reading::new(rt, place, Remotes::Unread);
+    let mut first = Reading::new(rt, folders, Remotes::Unread);
     let config = first.read_all(sources)?;
     if !first.is_asked {
         return Ok(config);
     }
-    let remotes = Reading::new(rt, place, Remotes::Collected).read_all(sources)?;
-    Reading::new(rt, place, Remotes::Known(&remotes)).read_all(sources)
+    let remotes = Reading::new(rt, folders, Remotes::Collected).read_all(sources)?;
+    Reading::new(rt, folders, Remotes::Known(&remotes)).read_all(sources)
 }
 
-/// What is known of the remotes' URLs while files are read.
+/// How much is known of the remotes' URLs while files are read.
 #[derive(Clone, Copy)]
 enum Remotes<'a> {
     /// Nothing: no condition on them holds.
@@ -46,17 +46,17 @@ enum Remotes<'a> {
 #[derive(Drop)]
 struct Reading<'a, R> {
     rt: &'a R,
-    place: &'a Place<'a>,
+    folders: &'a Folders,
     remotes: Remotes<'a>,
     /// Whether there was a condition on the remotes' URLs.
     is_asked: bool,
 }
 
 impl<'a, R: Files + Env + AllocGlobal> Reading<'a, R> {
-    fn new(rt: &'a R, place: &'a Place<'a>, remotes: Remotes<'a>) -> Reading<'a, R> {
+    fn new(rt: &'a R, folders: &'a Folders, remotes: Remotes<'a>) -> Reading<'a, R> {
         Reading {
             rt,
-            place,
+            folders,
             remotes,
             is_asked: false,
         }
@@ -164,9 +164,10 @@ impl<'a, R: Files + Env + AllocGlobal> Reading<'a, R> {
                 folds_case,
             } => {
                 let file = source.path.as_deref();
-                self.place.is_in_folder(self.rt, pattern, folds_case, file)
+                self.folders
+                    .is_in_folder(self.rt, pattern, folds_case, file)
             }
-            Condition::OnBranch(pattern) => self.place.is_on_branch(self.rt, pattern),
+            Condition::OnBranch(pattern) => self.folders.is_on_branch(self.rt, pattern),
             Condition::HasRemoteUrl(pattern) => self.has_remote_url(pattern),
         }
     }

@@ -2,8 +2,8 @@
 
 use crate::error::RepositoryError;
 use crate::files::{bad_environment, canonical, is_folder, joined, variable};
+use crate::folders::Folders;
 use crate::git_dir::{Refusal, common_dir_of, git_dir_in, is_git_dir, named_git_dir, parent_of};
-use crate::place::Place;
 use crate::regular::Unread;
 use crate::settings::{OwnSettings, Settings, read_own, read_settings};
 use git_config::Config;
@@ -52,21 +52,16 @@ impl Repository {
     ) -> Result<Repository, RepositoryError> {
         let folder = working_folder(rt, folder)?;
         let found = find(rt, folder.as_str())?;
-        let (folders, own) = folders_of(rt, folder.as_str(), found)?;
-        let place = Place {
-            folder: folder.as_str(),
-            top: folders.top.as_str(),
-            git_dir: folders.git_dir.as_str(),
-            common_dir: folders.common_dir.as_str(),
-        };
-        let (settings, config) = read_settings(rt, &place, own)?;
-        let prefix = prefix_of(rt.alloc(), folders.top.as_str(), folder.as_str())?;
+        let (folders, own) = folders_of(rt, folder, found)?;
+        let (settings, config) = read_settings(rt, &folders, own)?;
         let index = index_of(rt, &folders)?;
         let Folders {
+            working,
+            top,
             git_dir,
             common_dir,
-            top,
         } = folders;
+        let prefix = prefix_of(rt.alloc(), top.as_str(), working.as_str())?;
         Ok(Repository {
             git_dir,
             common_dir,
@@ -79,28 +74,21 @@ impl Repository {
     }
 }
 
-// The folders of a repository with a worktree, as `Repository` has them.
-#[derive(Drop)]
-struct Folders {
-    git_dir: String,
-    common_dir: String,
-    top: String,
-}
-
 // Returns the folders of a repository that was found from a working folder, and its own settings.
 fn folders_of<R: Files + Env + AllocGlobal>(
     rt: &R,
-    folder: &str,
+    working: String,
     found: Found,
 ) -> Result<(Folders, OwnSettings), RepositoryError> {
     let Found { git_dir, top } = found;
     let common_dir = common_dir_of(rt, git_dir.as_str())?;
     let own = read_own(rt, git_dir.as_str(), common_dir.as_str())?;
-    let top = top_of(rt, folder, git_dir.as_str(), &own, top)?;
+    let top = top_of(rt, working.as_str(), git_dir.as_str(), &own, top)?;
     let folders = Folders {
+        working,
+        top,
         git_dir,
         common_dir,
-        top,
     };
     Ok((folders, own))
 }

@@ -2,9 +2,9 @@
 
 use crate::error::RepositoryError;
 use crate::files::{joined, path_of, variable};
+use crate::folders::Folders;
 use crate::format::{Format, read_format};
 use crate::includes::with_includes;
-use crate::place::Place;
 use crate::sources::{Source, read_environment, read_file, read_outer};
 use crate::switches::{switch, switch_or, switch_or_word};
 use git_config::{Config, Variable, is_text};
@@ -91,15 +91,15 @@ pub fn read_own<R: Files + AllocGlobal>(
 /// A file or a value can't be read, or out of memory.
 pub fn read_settings<R: Files + Env + AllocGlobal>(
     rt: &R,
-    place: &Place<'_>,
+    folders: &Folders,
     own: OwnSettings,
 ) -> Result<(Settings, Config), RepositoryError> {
-    let mut sources = read_outer(rt, place.top)?;
+    let mut sources = read_outer(rt, folders.top.as_str())?;
     for source in own.sources {
         sources.push(source)?;
     }
     sources.push(read_environment(rt)?)?;
-    let config = with_includes(rt, place, &sources)?;
+    let config = with_includes(rt, folders, &sources)?;
     let settings = settings_in(rt, own.kind, &config)?;
     Ok((settings, config))
 }

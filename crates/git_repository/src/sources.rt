@@ -11,7 +11,7 @@ use std::rt::{Env, Files};
 // The most variables that the environment may state.
 const ENVIRONMENT_LIMIT: i32 = 1 << 16;
 
-/// Variables that one place states.
+/// The variables of one file, or those of the environment.
 #[derive(Debug, Drop)]
 pub struct Source {
     /// The path of their file, in whose folder relative paths of includes start. None if they are the environment's.

@@ -1,4 +1,4 @@
-//! Where a repository is, as the conditions of includes ask.
+//! The folders of a repository, as the conditions of includes ask for them.
 
 use crate::error::RepositoryError;
 use crate::files::{canonical, is_folder, joined, variable};
@@ -9,20 +9,20 @@ use std::fs;
 use std::os::unix::fs::MetadataExt as _;
 use std::rt::{Env, Files};
 
-/// Where a repository is.
-#[derive(Clone, Copy)]
-pub struct Place<'a> {
+/// The folders of a repository with a worktree, by absolute paths.
+#[derive(Debug, Drop)]
+pub struct Folders {
     /// The working folder, from which the repository was found.
-    pub folder: &'a str,
+    pub working: String,
     /// The worktree's folder.
-    pub top: &'a str,
-    /// The repository's folder.
-    pub git_dir: &'a str,
-    /// The folder of the repository whose linked worktree it is, or the same.
-    pub common_dir: &'a str,
+    pub top: String,
+    /// The repository's folder, usually `.git`. That of a linked worktree is its own.
+    pub git_dir: String,
+    /// The folder of the repository whose linked worktree this is, otherwise `git_dir`.
+    pub common_dir: String,
 }
 
-impl Place<'_> {
+impl Folders {
     /// Returns whether the repository's folder matches the pattern of a condition that the configuration file at a path has: by its
     /// path without links, or by the one that the user's shell has. None if the pattern isn't compared.
     ///
@@ -52,7 +52,7 @@ impl Place<'_> {
         let Some(pattern) = FolderPattern::of(alloc, text, folds_case, folder)? else {
             return Ok(Some(false));
         };
-        let real = canonical(rt, self.git_dir)?;
+        let real = canonical(rt, self.git_dir.as_str())?;
         match pattern.is_match(alloc, real.as_bytes())? {
             Some(false) => {
                 let named = self.named_git_dir(rt)?;
@@ -71,7 +71,7 @@ impl Place<'_> {
         rt: &R,
         pattern: &[u8],
     ) -> Result<Option<bool>, RepositoryError> {
-        match branch_of(rt, self.git_dir, self.common_dir)? {
+        match branch_of(rt, self.git_dir.as_str(), self.common_dir.as_str())? {
             Some(branch) => {
                 Ok(conditions::is_on_branch(rt.alloc(), pattern, branch.as_bytes())?)
             }
@@ -87,12 +87,12 @@ impl Place<'_> {
     ) -> Result<String, RepositoryError> {
         let alloc = rt.alloc();
         let (folder, name) = match variable(rt, "GIT_DIR")? {
-            Some(name) => (self.folder, name),
-            None => (self.top, String::from_str(alloc, ".git")?),
+            Some(name) => (self.working.as_str(), name),
+            None => (self.top.as_str(), String::from_str(alloc, ".git")?),
         };
         let path = joined(alloc, folder, name.as_str())?;
         if !is_folder(rt, path.as_str())? {
-            return Ok(String::from_str(alloc, self.git_dir)?);
+            return Ok(self.git_dir.clone()?);
         }
         match variable(rt, "PWD")? {
             Some(shown) if is_same_folder(rt, shown.as_str(), folder) => {
@@ -112,7 +112,7 @@ fn folder_of<R: Files + AllocGlobal>(rt: &R, file: &str) -> Result<String, Repos
     }
 }
 
-// Returns a pattern with a home folder in place of `~`. None if it has none that is known, or isn't UTF-8.
+// Returns a pattern with a home folder for its `~`. None if it has none that is known, or isn't UTF-8.
 fn with_home<R: Files + Env + AllocGlobal>(
     rt: &R,
     pattern: &[u8],
