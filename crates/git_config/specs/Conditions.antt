@@ -26,8 +26,8 @@ abbrev pub with_names : Bool → Style
 with_names folds = record { parts_names = true; folds_case = folds }
 
 -- Whether a text matches a pattern, or nothing if the pattern isn't compared.
-abbrev pub answer : Bool → List ℕ → List ℕ → Option Bool
-answer folds pattern text = if is_compared folds pattern then Some (matches_parts (styled_parts_of (with_names folds) pattern) text) else None
+abbrev pub compared : Bool → List ℕ → List ℕ → Option Bool
+compared folds pattern text = if is_compared folds pattern then Some (matches_parts (styled_parts_of (with_names folds) pattern) text) else None
 
 -- With a slash at its end a pattern matches all that is below.
 abbrev pub with_all_below : List ℕ → List ℕ
@@ -67,5 +67,5 @@ abbrev pub begins_so : Bool → List ℕ → List ℕ → Bool
 begins_so folds front path = nat_le (length front) (length path) && is_same folds (take (length front) path) front
 
 -- Whether the path of a folder matches.
-abbrev pub folder_answer : Folders → List ℕ → Option Bool
-folder_answer p path = if begins_so p.0 p.1.0 path then answer p.0 p.1.1 (drop (length p.1.0) path) else Some false
+abbrev pub folder_compared : Folders → List ℕ → Option Bool
+folder_compared p path = if begins_so p.0 p.1.0 path then compared p.0 p.1.1 (drop (length p.1.0) path) else Some false

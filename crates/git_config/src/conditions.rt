@@ -2,7 +2,7 @@
 
 ghost use Rattle.std.specs.Prelude.{◌≡◌, IfOk, false};
 ghost use Rattle.std.specs.List.{list_any};
-ghost use Rattle.git_config.specs.Conditions.{answer, is_cased, with_all_below};
+ghost use Rattle.git_config.specs.Conditions.{compared, is_cased, with_all_below};
 
 use git_patterns::text::ends_in_slash;
 use git_patterns::{MOST_PIECES, Style, Wildcards};
@@ -55,7 +55,7 @@ pub fn is_on_branch(
     pattern: &[u8],
     branch: &[u8],
 ) -> Result<Option<bool>, AllocError>
-    ensures { IfOk result (λ it. it ≡ answer false (with_all_below pattern.now) branch.now) }
+    ensures { IfOk result (λ it. it ≡ compared false (with_all_below pattern.now) branch.now) }
 {
     let pattern = with_all_below(alloc, pattern)?;
     is_match(alloc, &pattern, branch, false)
@@ -86,7 +86,7 @@ pub fn is_match(
     text: &[u8],
     folds_case: bool,
 ) -> Result<Option<bool>, AllocError>
-    ensures { IfOk result (λ it. it ≡ answer folds_case pattern.now text.now) }
+    ensures { IfOk result (λ it. it ≡ compared folds_case pattern.now text.now) }
 {
     if pattern.len() > MOST_PIECES || folds_case && has_cased(pattern) {
         return Ok(None);

@@ -1,7 +1,7 @@
 //! The patterns of the condition `gitdir:`.
 
 ghost use Rattle.std.specs.Prelude.{◌≡◌, IfOk, option_map};
-ghost use Rattle.git_config.specs.Conditions.{anywhere, folder_answer, folders_of, is_beside, is_same};
+ghost use Rattle.git_config.specs.Conditions.{anywhere, folder_compared, folders_of, is_beside, is_same};
 ghost use Rattle.git_config.specs.Views.{folders_view};
 
 use crate::conditions::{is_match, with_all_below};
@@ -61,7 +61,7 @@ impl FolderPattern {
     /// # Errors
     /// Out of memory.
     pub fn is_match(&self, alloc: Global, path: &[u8]) -> Result<Option<bool>, AllocError>
-        ensures { IfOk result (λ it. it ≡ folder_answer (folders_view self.now) path.now) }
+        ensures { IfOk result (λ it. it ≡ folder_compared (folders_view self.now) path.now) }
     {
         let front = self.front.as_slice();
         match path.split_at_checked(front.len()) {

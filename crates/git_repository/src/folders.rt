@@ -58,7 +58,7 @@ impl Folders {
                 let named = self.named_git_dir(rt)?;
                 Ok(pattern.is_match(alloc, named.as_bytes())?)
             }
-            answer => Ok(answer),
+            matches => Ok(matches),
         }
     }
 

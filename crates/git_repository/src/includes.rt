@@ -180,16 +180,16 @@ impl<'a, R: Files + Env + AllocGlobal> Reading<'a, R> {
             Remotes::Collected => return Ok(Some(true)),
             Remotes::Known(remotes) => remotes,
         };
-        let mut answer = Some(false);
+        let mut matches = Some(false);
         for variable in remotes.variables() {
             if variable.is_remote_url()
                 && let Some(url) = variable.value()
-                && answer == Some(false)
+                && matches == Some(false)
             {
-                answer = conditions::is_match(self.rt.alloc(), pattern, url, false)?;
+                matches = conditions::is_match(self.rt.alloc(), pattern, url, false)?;
             }
         }
-        Ok(answer)
+        Ok(matches)
     }
 
     /// Returns the path of the file that a variable of a source includes. A relative one starts in the folder of the source's file.
