@@ -44,16 +44,16 @@ enum Remotes<'a> {
 
 /// What reads the files that sources include.
 #[derive(Drop)]
-struct Reading<'a, R> {
+struct Reading<'a, 'b, 'c, R> {
     rt: &'a R,
-    folders: &'a Folders,
-    remotes: Remotes<'a>,
+    folders: &'b Folders,
+    remotes: Remotes<'c>,
     /// Whether there was a condition on the remotes' URLs.
     is_asked: bool,
 }
 
-impl<'a, R: Files + Env + AllocGlobal> Reading<'a, R> {
-    fn new(rt: &'a R, folders: &'a Folders, remotes: Remotes<'a>) -> Reading<'a, R> {
+impl<'a, 'b, 'c, R: Files + Env + AllocGlobal> Reading<'a, 'b, 'c, R> {
+    fn new(rt: &'a R, folders: &'b Folders, remotes: Remotes<'c>) -> Reading<'a, 'b, 'c, R> {
         Reading {
             rt,
             folders,

@@ -1,5 +1,5 @@
 use Rattle.std.proofs.Common.{◌+◌, ◌*◌}
-use Rattle.git_repository.proofs.includes.+includes.Given as goal
+use Rattle.git_repository.proofs.includes.Reading.+includes.Given as goal
 
 abbrev pub decreases-append : goal.decreases-append
 decreases-append g l = 2 * l.depth + 1
