@@ -3,7 +3,7 @@
 use crate::error::RepositoryError;
 use crate::files::{is_missing, joined, read_if_there, unreadable};
 use crate::regular::{PACKED_LIMIT, SMALL_LIMIT, Unread, read_regular};
-use git_config::is_blank;
+use crate::state::is_blank;
 use status_index::ObjectId;
 use std::alloc::Global;
 use std::rt::Files;
@@ -117,33 +117,6 @@ pub fn head_of<R: Files + AllocGlobal>(
             Some(Target::Commit(id)) => return Ok((!id.is_null()).then_some(id)),
             Some(Target::Name(next)) => name = next,
             None => return Ok(None),
-        }
-    }
-    Ok(None)
-}
-
-/// Returns the name of the branch that `HEAD` names, without `refs/heads/`, also if the branch has no commit. None if it names a
-/// commit or another reference.
-///
-/// # Errors
-/// As for `head_of`.
-pub fn branch_of<R: Files + AllocGlobal>(
-    rt: &R,
-    git_dir: &str,
-    common_dir: &str,
-) -> Result<Option<String>, RepositoryError> {
-    let mut name = String::from_str(rt.alloc(), "HEAD")?;
-    for _ in 0..DEPTH {
-        match target_of(rt, git_dir, common_dir, name.as_str())? {
-            Some(Target::Name(next)) => name = next,
-            _ => {
-                return match name.strip_prefix("refs/heads/") {
-                    Some(branch) if is_name(name.as_str()) => {
-                        Ok(Some(String::from_str(rt.alloc(), branch)?))
-                    }
-                    _ => Ok(None),
-                };
-            }
         }
     }
     Ok(None)

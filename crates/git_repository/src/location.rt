@@ -1,12 +1,11 @@
 //! The folders of a repository: its own, and that of its worktree.
 
+use crate::config::Config;
 use crate::error::RepositoryError;
 use crate::files::{bad_environment, canonical, is_folder, joined, variable};
-use crate::folders::Folders;
 use crate::git_dir::{Refusal, common_dir_of, git_dir_in, is_git_dir, named_git_dir, parent_of};
 use crate::regular::Unread;
 use crate::settings::{OwnSettings, Settings, read_own, read_settings};
-use git_config::Config;
 use std::alloc::{AllocError, Global};
 use std::io;
 use std::rt::{Env, Files};
@@ -32,7 +31,7 @@ pub struct Repository {
 
 // A repository that was found.
 #[derive(Drop)]
-struct Found {
+struct Place {
     git_dir: String,
     // The worktree, if neither the settings nor the environment name one. None within a repository's own folder.
     top: Option<String>,
@@ -51,17 +50,16 @@ impl Repository {
         folder: &str,
     ) -> Result<Repository, RepositoryError> {
         let folder = working_folder(rt, folder)?;
-        let found = find(rt, folder.as_str())?;
-        let (folders, own) = folders_of(rt, folder, found)?;
-        let (settings, config) = read_settings(rt, &folders, own)?;
+        let place = find(rt, folder.as_str())?;
+        let (folders, own) = folders_of(rt, folder.as_str(), place)?;
+        let (settings, config) = read_settings(rt, folders.top.as_str(), own)?;
+        let prefix = prefix_of(rt.alloc(), folders.top.as_str(), folder.as_str())?;
         let index = index_of(rt, &folders)?;
         let Folders {
-            working,
-            top,
             git_dir,
             common_dir,
+            top,
         } = folders;
-        let prefix = prefix_of(rt.alloc(), top.as_str(), working.as_str())?;
         Ok(Repository {
             git_dir,
             common_dir,
@@ -74,21 +72,28 @@ impl Repository {
     }
 }
 
+// The folders of a repository with a worktree, as `Repository` has them.
+#[derive(Drop)]
+struct Folders {
+    git_dir: String,
+    common_dir: String,
+    top: String,
+}
+
 // Returns the folders of a repository that was found from a working folder, and its own settings.
 fn folders_of<R: Files + Env + AllocGlobal>(
     rt: &R,
-    working: String,
-    found: Found,
+    folder: &str,
+    place: Place,
 ) -> Result<(Folders, OwnSettings), RepositoryError> {
-    let Found { git_dir, top } = found;
+    let Place { git_dir, top } = place;
     let common_dir = common_dir_of(rt, git_dir.as_str())?;
     let own = read_own(rt, git_dir.as_str(), common_dir.as_str())?;
-    let top = top_of(rt, working.as_str(), git_dir.as_str(), &own, top)?;
+    let top = top_of(rt, folder, git_dir.as_str(), &own, top)?;
     let folders = Folders {
-        working,
-        top,
         git_dir,
         common_dir,
+        top,
     };
     Ok((folders, own))
 }
@@ -129,12 +134,12 @@ fn not_a_folder(alloc: Global, path: &str, why: Unread) -> RepositoryError {
     }
 }
 
-fn find<R: Files + Env + AllocGlobal>(rt: &R, folder: &str) -> Result<Found, RepositoryError> {
+fn find<R: Files + Env + AllocGlobal>(rt: &R, folder: &str) -> Result<Place, RepositoryError> {
     let alloc = rt.alloc();
     match variable(rt, "GIT_DIR")? {
         Some(path) => {
             let path = joined(alloc, folder, path.as_str())?;
-            Ok(Found {
+            Ok(Place {
                 git_dir: named_git_dir(rt, path)?,
                 top: Some(String::from_str(alloc, folder)?),
             })
@@ -151,7 +156,7 @@ fn search<R: Files + AllocGlobal>(
     rt: &R,
     folder: &str,
     ceilings: &str,
-) -> Result<Found, RepositoryError> {
+) -> Result<Place, RepositoryError> {
     let mut here = folder;
     for _ in 0..usize::MAX {
         if let Some(place) = place_in(rt, here)? {
@@ -169,14 +174,14 @@ fn search<R: Files + AllocGlobal>(
 fn place_in<R: Files + AllocGlobal>(
     rt: &R,
     folder: &str,
-) -> Result<Option<Found>, RepositoryError> {
+) -> Result<Option<Place>, RepositoryError> {
     if let Some(git_dir) = git_dir_in(rt, folder, Refusal::IsMissing)? {
         let top = Some(String::from_str(rt.alloc(), folder)?);
-        return Ok(Some(Found { git_dir, top }));
+        return Ok(Some(Place { git_dir, top }));
     }
     if is_git_dir(rt, folder, Refusal::IsMissing)? {
         let git_dir = String::from_str(rt.alloc(), folder)?;
-        return Ok(Some(Found { git_dir, top: None }));
+        return Ok(Some(Place { git_dir, top: None }));
     }
     Ok(None)
 }
