@@ -73,14 +73,10 @@ impl Variable {
         self.is_named(b"include", None, b"path")
     }
 
-    /// Returns the condition of `includeIf.CONDITION.path`, whose value is the path of a file that is read there if the condition
-    /// holds. None for any other variable.
+    /// Returns the condition of a section `includeIf`. If it holds, the value of the variable `path` is the path of a file that is
+    /// read there. None for a variable of another section.
     pub fn include_condition(&self) -> Option<&[u8]> {
-        if self.has_name(b"path") {
-            self.subsection_of(b"includeif")
-        } else {
-            None
-        }
+        self.subsection_of(b"includeif")
     }
 
     /// Returns whether this is `remote.NAME.url`.

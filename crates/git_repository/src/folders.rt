@@ -1,9 +1,9 @@
 //! The folders of a repository, as the conditions of includes ask for them.
 
 use crate::error::RepositoryError;
-use crate::files::{canonical, is_folder, joined, variable};
+use crate::files::{canonical, joined, variable};
 use crate::heads::branch_of;
-use crate::homes::expanded_without_links;
+use crate::homes::{OWN_FOLDER, pattern_with_home};
 use git_config::{FolderPattern, conditions};
 use std::fs;
 use std::os::unix::fs::MetadataExt as _;
@@ -20,11 +20,14 @@ pub struct Folders {
     pub git_dir: String,
     /// The folder of the repository whose linked worktree this is, otherwise `git_dir`.
     pub common_dir: String,
+    /// The path by which git knows the repository's folder, absolute or from the worktree's top on. None if that is the one without
+    /// links.
+    pub name: Option<String>,
 }
 
 impl Folders {
     /// Returns whether the repository's folder matches the pattern of a condition that the configuration file at a path has: by its
-    /// path without links, or by the one that the user's shell has. None if the pattern isn't compared.
+    /// path without links, or by the one by which git knows it. None if the pattern isn't compared.
     ///
     /// # Errors
     /// A folder's path or an environment variable can't be read, or out of memory.
@@ -44,21 +47,20 @@ impl Folders {
             Some(folder) => Some(folder.as_bytes()),
             None => None,
         };
-        let home = with_home(rt, pattern)?;
-        let text = match &home {
-            Some(text) => text.as_bytes(),
-            None => pattern,
-        };
-        let Some(pattern) = FolderPattern::of(alloc, text, folds_case, folder)? else {
+        if pattern.starts_with(OWN_FOLDER) {
+            return Ok(None);
+        }
+        let pattern = pattern_with_home(rt, self.top.as_str(), pattern)?;
+        let Some(pattern) = FolderPattern::of(alloc, &pattern, folds_case, folder)? else {
             return Ok(Some(false));
         };
         let real = canonical(rt, self.git_dir.as_str())?;
-        match pattern.is_match(alloc, real.as_bytes())? {
-            Some(false) => {
-                let named = self.named_git_dir(rt)?;
+        match (pattern.is_match(alloc, real.as_bytes())?, &self.name) {
+            (Some(false), Some(name)) => {
+                let named = self.named_git_dir(rt, name.as_str())?;
                 Ok(pattern.is_match(alloc, named.as_bytes())?)
             }
-            matches => Ok(matches),
+            (matches, _) => Ok(matches),
         }
     }
 
@@ -79,27 +81,28 @@ impl Folders {
         }
     }
 
-    // Returns the path of the repository's folder through the links by which the user's shell knows the worktree's. That of one
-    // which a file `.git` names has no links.
+    // Returns the path of the repository's folder as it is named. If that is relative, it begins with the path that the user's shell
+    // has for the worktree's top, through links.
     fn named_git_dir<R: Files + Env + AllocGlobal>(
         &self,
         rt: &R,
+        name: &str,
     ) -> Result<String, RepositoryError> {
-        let alloc = rt.alloc();
-        let (folder, name) = match variable(rt, "GIT_DIR")? {
-            Some(name) => (self.working.as_str(), name),
-            None => (self.top.as_str(), String::from_str(alloc, ".git")?),
-        };
-        let path = joined(alloc, folder, name.as_str())?;
-        if !is_folder(rt, path.as_str())? {
-            return Ok(self.git_dir.clone()?);
-        }
-        match variable(rt, "PWD")? {
-            Some(shown) if is_same_folder(rt, shown.as_str(), folder) => {
-                Ok(joined(alloc, shown.as_str(), name.as_str())?)
+        let top = self.top.as_str();
+        match shown_folder(rt)? {
+            Some(shown) if is_same_folder(rt, shown.as_str(), top) => {
+                Ok(joined(rt.alloc(), shown.as_str(), name)?)
             }
-            _ => Ok(path),
+            _ => Ok(joined(rt.alloc(), top, name)?),
         }
+    }
+}
+
+// Returns the path that the user's shell has for the working folder. None if it isn't UTF-8 or not set.
+fn shown_folder<R: Env + AllocGlobal>(rt: &R) -> Result<Option<String>, RepositoryError> {
+    match variable(rt, "PWD") {
+        Err(RepositoryError::BadEnvironment { .. }) => Ok(None),
+        shown => shown,
     }
 }
 
@@ -109,17 +112,6 @@ fn folder_of<R: Files + AllocGlobal>(rt: &R, file: &str) -> Result<String, Repos
     match real.rsplit_once('/') {
         Some((folder, _)) => Ok(String::from_str(rt.alloc(), folder)?),
         None => Ok(real),
-    }
-}
-
-// Returns a pattern with a home folder for its `~`. None if it has none that is known, or isn't UTF-8.
-fn with_home<R: Files + Env + AllocGlobal>(
-    rt: &R,
-    pattern: &[u8],
-) -> Result<Option<String>, RepositoryError> {
-    match str::from_utf8(pattern) {
-        Ok(pattern) => expanded_without_links(rt, pattern),
-        Err(_) => Ok(None),
     }
 }
 

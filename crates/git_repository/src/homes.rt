@@ -1,13 +1,17 @@
 //! The home folders of users, and `~` in paths.
 
 use crate::error::RepositoryError;
-use crate::files::{canonical, read_if_there, text_of, variable};
+use crate::files::{canonical, joined, read_if_there, text_of, variable};
 use crate::regular::SMALL_LIMIT;
+use git_patterns::text::first_at;
 use std::alloc::Global;
 use std::rt::{Env, Files};
 
 // The file that has the home folders of the system's users.
 const USERS: &str = "/etc/passwd";
+
+/// The beginning of paths in git's own folder.
+pub const OWN_FOLDER: &[u8] = b"%(prefix)/";
 
 // The number of the field that is the home folder, counted from 0.
 const HOME_FIELD: usize = 5;
@@ -21,7 +25,7 @@ pub fn expanded<R: Files + Env + AllocGlobal>(
     rt: &R,
     path: &str,
 ) -> Result<Option<String>, RepositoryError> {
-    if path.starts_with("%(prefix)/") {
+    if path.as_bytes().starts_with(OWN_FOLDER) {
         return Ok(None);
     }
     let Some((user, below)) = split_home(path) else {
@@ -33,26 +37,64 @@ pub fn expanded<R: Files + Env + AllocGlobal>(
     }
 }
 
-/// Does the same, with the path of the user's home folder without links.
+/// Returns the pattern of a condition in which `~` is replaced as in a path, but by the path of the user's home folder without
+/// links. A relative home folder is one of the worktree's top. A `~` without a known folder stays.
 ///
 /// # Errors
-/// As for `expanded`.
-pub fn expanded_without_links<R: Files + Env + AllocGlobal>(
+/// No folder is there in which the user's home folder may be; and as for `expanded`.
+pub fn pattern_with_home<R: Files + Env + AllocGlobal>(
     rt: &R,
-    path: &str,
+    top: &str,
+    pattern: &[u8],
+) -> Result<Vec<u8>, RepositoryError> {
+    let alloc = rt.alloc();
+    let mut whole = Vec::new(alloc);
+    let mut below = pattern;
+    if let Some(rest) = pattern.strip_prefix(b"~") {
+        let len = first_at(b'/', rest).unwrap_or(rest.len());
+        if let Some(home) = real_home_of(rt, top, rest.get(..len).unwrap_or(rest))? {
+            whole.extend_from_slice(home.as_bytes())?;
+            below = rest.get(len..).unwrap_or(b"");
+        }
+    }
+    whole.extend_from_slice(below)?;
+    Ok(whole)
+}
+
+// Returns the home folder of a user, or with an empty name that of the environment without links. None if it isn't known.
+fn real_home_of<R: Files + Env + AllocGlobal>(
+    rt: &R,
+    top: &str,
+    user: &[u8],
 ) -> Result<Option<String>, RepositoryError> {
-    let Some(("", below)) = split_home(path) else {
-        return expanded(rt, path);
-    };
-    let Some(home) = home_of(rt, "")? else {
+    let Ok(user) = str::from_utf8(user) else {
         return Ok(None);
     };
-    let home = match canonical(rt, home.as_str()) {
-        Ok(real) => real,
-        Err(error) if error.is_unreadable() => home,
-        Err(error) => return Err(error),
-    };
-    Ok(Some(format!(in rt.alloc(); "{home}{below}")?))
+    match home_of(rt, user)? {
+        Some(home) if user.is_empty() => {
+            let home = if home.is_empty() {
+                home
+            } else {
+                joined(rt.alloc(), top, home.as_str())?
+            };
+            Ok(Some(canonical_or_new(rt, home.as_str())?))
+        }
+        home => Ok(home),
+    }
+}
+
+// Returns the path of a folder without links. It needn't be there, but a folder above it does.
+fn canonical_or_new<R: Files + AllocGlobal>(rt: &R, path: &str) -> Result<String, RepositoryError> {
+    match (
+        canonical(rt, path),
+        path.trim_end_matches('/').rsplit_once('/'),
+    ) {
+        (Err(error), Some((above, name))) if error.is_unreadable() && !name.is_empty() => {
+            let above = canonical(rt, if above.is_empty() { "/" } else { above })?;
+            Ok(joined(rt.alloc(), above.as_str(), name)?)
+        }
+        (found, _) => found,
+    }
 }
 
 // Returns the name of the user whose home folder a path begins with, and the rest of the path. None if it begins otherwise.

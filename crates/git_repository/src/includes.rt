@@ -145,7 +145,7 @@ impl<'a, 'b, 'c, R: Files + Env + AllocGlobal> Reading<'a, 'b, 'c, R> {
             return Ok(false);
         };
         match self.holds(condition, source)? {
-            Some(holds) => Ok(holds),
+            Some(holds) => Ok(holds && variable.has_name(b"path")),
             None => Err(RepositoryError::UnsupportedCondition {
                 condition: String::from_utf8_lossy(self.rt.alloc(), text)?,
             }),
