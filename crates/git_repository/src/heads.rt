@@ -202,7 +202,7 @@ fn is_cut_off(text: &[u8]) -> bool {
     }
 }
 
-// What a reference leads to.
+// The end of a reference: its target, or why it has none.
 #[derive(Drop)]
 enum Loose {
     // It isn't there. If that is its own file, the packed references count.

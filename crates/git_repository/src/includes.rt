@@ -42,7 +42,7 @@ enum Remotes<'a> {
     Known(&'a Config),
 }
 
-/// What reads the files that sources include.
+/// Reads the files that sources include.
 #[derive(Drop)]
 struct Reading<'a, 'b, 'c, R> {
     rt: &'a R,
