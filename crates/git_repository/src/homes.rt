@@ -83,17 +83,28 @@ fn real_home_of<R: Files + Env + AllocGlobal>(
     }
 }
 
-// Returns the path of a folder without links. It needn't be there, but a folder above it does.
+// Returns the path of a folder without links. It needn't be there, but a folder above it has to.
 fn canonical_or_new<R: Files + AllocGlobal>(rt: &R, path: &str) -> Result<String, RepositoryError> {
-    match (
-        canonical(rt, path),
-        path.trim_end_matches('/').rsplit_once('/'),
-    ) {
-        (Err(error), Some((above, name))) if error.is_unreadable() && !name.is_empty() => {
-            let above = canonical(rt, if above.is_empty() { "/" } else { above })?;
-            Ok(joined(rt.alloc(), above.as_str(), name)?)
+    match canonical(rt, path) {
+        Ok(real) => Ok(real),
+        Err(error) if error.is_unreadable() => new_in_canonical(rt, path, error),
+        Err(error) => Err(error),
+    }
+}
+
+// Returns the path of a folder that isn't there, in the folder above it without links. This is the error if there is none.
+fn new_in_canonical<R: Files + AllocGlobal>(
+    rt: &R,
+    path: &str,
+    error: RepositoryError,
+) -> Result<String, RepositoryError> {
+    match path.trim_end_matches('/').rsplit_once('/') {
+        Some((above, name)) if !name.is_empty() => {
+            let above = if above.is_empty() { "/" } else { above };
+            let real = canonical(rt, above)?;
+            Ok(joined(rt.alloc(), real.as_str(), name)?)
         }
-        (found, _) => found,
+        _ => Err(error),
     }
 }
 

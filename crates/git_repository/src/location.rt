@@ -97,10 +97,10 @@ fn folders_of<R: Files + Env + AllocGlobal>(
     let common_dir = common_dir_of(rt, git_dir.as_str())?;
     let own = read_own(rt, git_dir.as_str(), common_dir.as_str())?;
     let top = top_of(rt, working.as_str(), git_dir.as_str(), &own, top)?;
-    let name = match name {
-        Some(name) if !has_named(rt, &own)? => Some(name),
-        Some(name) if is_near => known_name(rt.alloc(), top.as_str(), working.as_str(), name)?,
-        _ => None,
+    let name = if has_named(rt, &own)? {
+        known_name(rt.alloc(), top.as_str(), working.as_str(), name, is_near)?
+    } else {
+        name
     };
     let folders = Folders {
         working,
@@ -121,14 +121,22 @@ fn has_named<R: Env + AllocGlobal>(rt: &R, own: &OwnSettings) -> Result<bool, Re
     )
 }
 
-// Returns the path by which git knows a repository's folder that something names. Git changes to the worktree's top: from a folder
-// below it uses the path without links, and from a folder outside the whole path, or the rest of it after that of the top.
+// Returns the path by which git knows a repository's folder, if something names that or the worktree. Git changes to the worktree's
+// top: from a folder below it uses the path without links, and from a folder outside the whole path, or the rest of it after that
+// of the top.
 fn known_name(
     alloc: Global,
     top: &str,
     working: &str,
-    name: String,
+    name: Option<String>,
+    is_near: bool,
 ) -> Result<Option<String>, AllocError> {
+    let Some(name) = name else {
+        return Ok(None);
+    };
+    if !is_near {
+        return Ok(None);
+    }
     if working == top || name.starts_with('/') && below(top, working).is_none() {
         return Ok(Some(name));
     }
