@@ -5,7 +5,7 @@ use git_checkout::{Columns, Request, UntrackedFiles};
 use std::alloc::{AllocError, Global};
 
 /// The day of the newest section of `CHANGELOG.md`: there are no releases to name.
-const VERSION: &str = "2026-11-30, unreleased";
+const VERSION: &str = "2026-12-01, unreleased";
 
 /// The values of `--untracked`.
 const UNTRACKED: &[&str] = &["no", "normal", "all"];
