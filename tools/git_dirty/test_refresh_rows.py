@@ -35,7 +35,7 @@ class RefreshRows(RowCase, Careful):
         if kind == "as git":
             self.assert_refreshes_as_git(lines)
         elif kind == "shown":
-            self.assert_seen(words, lines)
+            self.assert_seen(words, lines, **settings)
         elif kind == "misled":
             self.assert_misled(words, **settings)
         elif kind in ("left", "left by --worktree"):

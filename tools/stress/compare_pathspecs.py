@@ -20,7 +20,7 @@ sys.path.insert(0, os.path.dirname(os.path.dirname(os.path.abspath(__file__))))
 
 from stress.compare_dirty import PART, compared
 from stress.compare_untracked import IGNORED, MODES, UntrackedComparer
-from stress.draw_pathspecs import WILDCARDS, PathspecDrawing, is_plain, parts_of, without_parents
+from stress.draw_pathspecs import PathspecDrawing, is_plain, parts_of
 from stress.seeds import main
 from support.programs import GIT_DIRTY
 from support.repositories import COLUMNS, status_words
@@ -82,12 +82,8 @@ class PathspecComparer(UntrackedComparer):
             yield [*columns, *ours, *options, "-C", place, "--", *kept], lines
 
     def is_lost(self, word, asked, columns):
-        """Returns whether a word is a path without a pattern, and selects nothing. A wildcard in the working folder's name makes it a
-        pattern."""
+        """Returns whether a word is a path without a pattern, and selects nothing."""
         magic, rest = parts_of(word, asked.settings)
-        is_below = not magic & {"top", "literal"} and not rest.startswith("/")
-        if is_below and WILDCARDS.search(without_parents(f"{asked.folder}/{rest}")):
-            return False
         folder = self.top if "top" in magic else os.path.join(self.top, asked.folder)
         return is_plain(word, asked.settings) and not self.selects(folder, rest or ".", columns)
 

@@ -9,7 +9,7 @@ import tempfile
 import unittest
 from functools import partial
 
-from stress import compare_commits, compare_dirty, compare_pathspecs, compare_sparse, compare_untracked
+from stress import compare_commits, compare_dirty, compare_includes, compare_pathspecs, compare_sparse, compare_untracked
 from stress import draw_histories, draw_pathspecs, draw_untracked, mutate_index, mutate_objects, mutate_settings
 from stress.draw_attributes import AttributeDrawing
 from stress.draw_commits import EACH
@@ -23,6 +23,8 @@ REPOSITORIES, ATTRIBUTES, COMMITS, SPARSES, UNTRACKED = 1000, 200, 400, 200, 200
 # For each of these repositories four lists of pathspecs are drawn.
 PATHSPECS = 250
 MUTATED, MUTATED_SETTINGS, MUTATED_OBJECTS = 10000, 10000, 2000
+# How often the configuration files that include others are drawn.
+INCLUDES = 1000
 
 # What spoils the end of a program, whose output is in the file `out`, and whose exit status is $status.
 SPOILERS = ["sed 1d out; exit $status", "sed '$d' out; exit $status", "cat out; echo x; exit $status"]
@@ -133,6 +135,11 @@ class Drawn(unittest.TestCase):
         kinds = self.run_seeds(mutate_settings.run, MUTATED_SETTINGS, mutate_settings.PART)
         self.assertGreater(min(kinds["git's lines"], kinds["both fail"]), MUTATED_SETTINGS // 4)
 
+    def test_drawn_files_are_included_as_by_git(self):
+        kinds = self.run_seeds(compare_includes.run, INCLUDES, compare_includes.PART)
+        self.assertEqual({one for one in compare_includes.EACH if not kinds[one]}, set())
+        self.assertGreater(kinds["git's lines"], INCLUDES // 2)
+
 
 @unittest.skipUnless(STATUS_PROGRAM and GIT_DIRTY, "no built program")
 class Spoilt(unittest.TestCase):
@@ -143,7 +150,7 @@ class Spoilt(unittest.TestCase):
     SCRIPTS = [(partial(draw_histories.run, events=200), STATUS_PROGRAM, [2])]
     SCRIPTS += [(partial(compare_dirty.compared, kind=AttributeDrawing), GIT_DIRTY, range(2))]
     SCRIPTS += [(mutate_index.run, GIT_DIRTY, range(20)), (mutate_settings.run, GIT_DIRTY, range(20))]
-    SCRIPTS += [(mutate_objects.run, GIT_DIRTY, [31, 46])]
+    SCRIPTS += [(mutate_objects.run, GIT_DIRTY, [31, 46]), (compare_includes.run, GIT_DIRTY, range(8))]
 
     def test_each_spoilt_end_is_noticed(self):
         for number, (run, program, seeds) in enumerate(self.SCRIPTS):

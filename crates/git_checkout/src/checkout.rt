@@ -463,9 +463,6 @@ fn note_unread<E: io::Write>(
     if request.quiet {
         return;
     }
-    if repository.settings.has_include {
-        note(faults, "files that the configuration includes aren't read");
-    }
     if ignored.is_unread {
         note(
             faults,

@@ -71,9 +71,7 @@ impl Refresh<'_> {
     /// Returns why the index isn't written. None if it is.
     fn obstacle(&self, is_whole: bool) -> Option<&'static str> {
         let settings = &self.repository.settings;
-        if settings.has_include {
-            Some("files that the configuration includes aren't read")
-        } else if settings.ignore_case {
+        if settings.ignore_case {
             Some("core.ignoreCase is set, and attributes of paths are found by their exact case")
         } else if settings.has_other_attributes {
             Some("git may read other attributes (attr.tree, GIT_ATTR_SOURCE, GIT_COMMON_DIR)")

@@ -36,9 +36,11 @@ impl Selected<'_> {
         !self.text.is_empty() && !self.magic.excludes && !self.magic.icase && !self.is_pattern()
     }
 
-    /// Returns whether there are wildcards.
+    /// Returns whether there are wildcards, other than those of the working folder's own name.
     fn is_pattern(&self) -> bool {
-        !self.magic.literal && literal_len(self.text.as_bytes()).max(self.kept) < self.text.len()
+        let text = self.text.as_bytes();
+        let own = &text[self.kept.min(text.len())..];
+        !self.magic.literal && literal_len(own) < own.len()
     }
 }
 

@@ -42,6 +42,36 @@ pub enum RepositoryError {
         /// The file's path.
         path: String,
     },
+    /// An include has no path.
+    #[error("missing value for 'include.path'")]
+    NoIncludePath,
+    /// The path of an include or of a file of the user begins with a home folder that isn't known.
+    #[error("could not expand include path '{path}'")]
+    UnknownHome {
+        /// The path.
+        path: String,
+    },
+    /// The environment includes a file by a relative path.
+    #[error("relative config includes must come from files: '{path}'")]
+    RelativeInclude {
+        /// The path.
+        path: String,
+    },
+    /// More files include each other than git reads.
+    #[error("exceeded maximum include depth (10) while including '{path}'")]
+    IncludesTooDeep {
+        /// The path of the last one.
+        path: String,
+    },
+    /// A file that a condition on the URLs of remotes may need has such a URL itself.
+    #[error("remote URLs cannot be configured in file directly or indirectly included by includeIf.hasconfig:remote.*.url")]
+    ConditionalRemote,
+    /// The pattern of a condition isn't compared: it is longer than 255 bytes, or without regard to case and with `[` or a backslash.
+    #[error("the condition of an include isn't supported: '{condition}'")]
+    UnsupportedCondition {
+        /// The condition.
+        condition: String,
+    },
     /// A variable has to be a boolean and isn't.
     #[error("bad boolean config value '{value}' for '{name}'")]
     BadBoolean {

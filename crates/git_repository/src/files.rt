@@ -91,11 +91,18 @@ pub fn is_folder<R: Files>(rt: &R, path: &str) -> Result<bool, RepositoryError> 
 /// # Errors
 /// The path isn't UTF-8, or out of memory.
 pub fn path_of(alloc: Global, bytes: &[u8]) -> Result<String, RepositoryError> {
+    let text = text_of(alloc, bytes)?;
+    let path = text.trim_end_matches(|found| found == '\n' || found == '\r');
+    Ok(String::from_str(alloc, path)?)
+}
+
+/// Returns the text of a path.
+///
+/// # Errors
+/// The path isn't UTF-8, or out of memory.
+pub fn text_of(alloc: Global, bytes: &[u8]) -> Result<&str, RepositoryError> {
     match str::from_utf8(bytes) {
-        Ok(text) => {
-            let text = text.trim_end_matches(|found| found == '\n' || found == '\r');
-            Ok(String::from_str(alloc, text)?)
-        }
+        Ok(text) => Ok(text),
         Err(_) => Err(RepositoryError::IllformedPath {
             path: String::from_utf8_lossy(alloc, bytes)?,
         }),

@@ -1,8 +1,8 @@
 //! The format of a repository.
 
-use crate::config::Config;
 use crate::error::RepositoryError;
-use crate::values::{is_text, number_of, switch_or};
+use crate::switches::switch_or;
+use git_config::{Config, is_text, number_of};
 use status_index::HashKind;
 use std::alloc::Global;
 

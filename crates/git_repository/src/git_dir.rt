@@ -82,23 +82,18 @@ pub fn named_git_dir<R: Files + AllocGlobal>(
 fn read_git_file<R: Files + AllocGlobal>(rt: &R, path: String) -> Result<String, RepositoryError> {
     match read_if_there(rt, path.as_str(), GIT_FILE_LIMIT)? {
         Some(bytes) => match bytes.as_slice().strip_prefix(GIT_FILE_START) {
-            Some(named) => beside(rt, path.as_str(), named),
+            Some(named) => beside(rt.alloc(), path.as_str(), named),
             None => Err(RepositoryError::BadGitFile { path }),
         },
         None => Err(RepositoryError::NotARepository { path }),
     }
 }
 
-// Returns a path that a file names. It starts in the folder that has the file, also if a link led to it.
-fn beside<R: Files + AllocGlobal>(
-    rt: &R,
-    file: &str,
-    named: &[u8],
-) -> Result<String, RepositoryError> {
-    let place = canonical(rt, file)?;
-    let folder = parent_of(place.as_str()).unwrap_or("/");
-    let path = path_of(rt.alloc(), named)?;
-    Ok(joined(rt.alloc(), folder, path.as_str())?)
+// Returns a path that a file names. It starts in the folder in which the file, or a link to it, is.
+fn beside(alloc: Global, file: &str, named: &[u8]) -> Result<String, RepositoryError> {
+    let folder = parent_of(file).unwrap_or("/");
+    let path = path_of(alloc, named)?;
+    Ok(joined(alloc, folder, path.as_str())?)
 }
 
 /// Returns whether a folder is that of a repository: `HEAD` is one that git accepts, and folders `objects` and `refs` are

@@ -3,7 +3,7 @@
 use crate::error::RepositoryError;
 use crate::files::{is_missing, joined, read_if_there, unreadable};
 use crate::regular::{PACKED_LIMIT, SMALL_LIMIT, Unread, read_regular};
-use crate::state::is_blank;
+use git_config::is_blank;
 use status_index::ObjectId;
 use std::alloc::Global;
 use std::rt::Files;
@@ -111,27 +111,60 @@ pub fn head_of<R: Files + AllocGlobal>(
     git_dir: &str,
     common_dir: &str,
 ) -> Result<Option<ObjectId>, RepositoryError> {
+    match end_of_head(rt, git_dir, common_dir)? {
+        Some((_, Loose::Leads(Target::Commit(id)))) => Ok((!id.is_null()).then_some(id)),
+        _ => Ok(None),
+    }
+}
+
+/// Returns the name of the branch that `HEAD` names, without `refs/heads/`, also if the branch has no commit. None if it names a
+/// commit or another reference, or a branch whose file isn't that of a reference.
+///
+/// # Errors
+/// As for `head_of`.
+pub fn branch_of<R: Files + AllocGlobal>(
+    rt: &R,
+    git_dir: &str,
+    common_dir: &str,
+) -> Result<Option<String>, RepositoryError> {
+    match end_of_head(rt, git_dir, common_dir)? {
+        Some((name, Loose::Leads(_) | Loose::Missing | Loose::Dangling)) => {
+            match name.strip_prefix("refs/heads/") {
+                Some(branch) => Ok(Some(String::from_str(rt.alloc(), branch)?)),
+                None => Ok(None),
+            }
+        }
+        _ => Ok(None),
+    }
+}
+
+// Returns the last reference on the way from `HEAD`, by its name, and what it leads to. None if that is too far, or the name isn't
+// one that git accepts.
+fn end_of_head<R: Files + AllocGlobal>(
+    rt: &R,
+    git_dir: &str,
+    common_dir: &str,
+) -> Result<Option<(String, Loose)>, RepositoryError> {
     let mut name = String::from_str(rt.alloc(), "HEAD")?;
     for _ in 0..DEPTH {
+        if !is_name(name.as_str()) {
+            return Ok(None);
+        }
         match target_of(rt, git_dir, common_dir, name.as_str())? {
-            Some(Target::Commit(id)) => return Ok((!id.is_null()).then_some(id)),
-            Some(Target::Name(next)) => name = next,
-            None => return Ok(None),
+            Loose::Leads(Target::Name(next)) => name = next,
+            end => return Ok(Some((name, end))),
         }
     }
     Ok(None)
 }
 
-// Returns what the reference of a name leads to. None if there is none.
+// Returns what the reference of a name leads to.
 fn target_of<R: Files + AllocGlobal>(
     rt: &R,
     git_dir: &str,
     common_dir: &str,
     name: &str,
-) -> Result<Option<Target>, RepositoryError> {
-    if !is_name(name) {
-        return Ok(None);
-    }
+) -> Result<Loose, RepositoryError> {
     let folder = if is_of_worktree(name) {
         git_dir
     } else {
@@ -139,9 +172,11 @@ fn target_of<R: Files + AllocGlobal>(
     };
     let path = joined(rt.alloc(), folder, name)?;
     match loose_target(rt, path.as_str())? {
-        Loose::Leads(target) => Ok(Some(target)),
-        Loose::LeadsNowhere => Ok(None),
-        Loose::Missing => packed_target(rt, common_dir, name),
+        Loose::Missing => match packed_target(rt, common_dir, name)? {
+            Some(target) => Ok(Loose::Leads(target)),
+            None => Ok(Loose::Missing),
+        },
+        found => Ok(found),
     }
 }
 
@@ -167,21 +202,23 @@ fn is_cut_off(text: &[u8]) -> bool {
     }
 }
 
-// A reference's own file.
+// The end of a reference: its target, or why it has none.
 #[derive(Drop)]
 enum Loose {
-    // It isn't there, so that the packed references count.
+    // It isn't there. If that is its own file, the packed references count.
     Missing,
-    // It leads to nothing.
+    // It is a link that leads to no file.
+    Dangling,
+    // It is the file of no reference.
     LeadsNowhere,
     Leads(Target),
 }
 
-// Returns what a reference's own file leads to. As in git, a symbolic link whose target begins with `refs/` names another
-// reference, a folder is no file, and a link that leads to no file leads nowhere.
+// Returns what a reference's own file leads to. As in git, a symbolic link whose target is the name of another reference leads to
+// that, a folder is no file, and a link that leads to no file leads nowhere.
 fn loose_target<R: Files + AllocGlobal>(rt: &R, path: &str) -> Result<Loose, RepositoryError> {
     match link_at(rt, path) {
-        Ok(Some(target)) if target.as_bytes().starts_with(REFERENCES) => {
+        Ok(Some(target)) if is_reference(target.as_str()) => {
             Ok(Loose::Leads(Target::Name(target)))
         }
         Ok(link) => target_of_file(rt, path, link.is_some()),
@@ -203,7 +240,7 @@ fn target_of_file<R: Files + AllocGlobal>(
         },
         Err(Unread::System(kind)) if is_missing(kind) || kind == io::ErrorKind::IsADirectory => {
             if is_link {
-                Ok(Loose::LeadsNowhere)
+                Ok(Loose::Dangling)
             } else {
                 Ok(Loose::Missing)
             }
@@ -227,6 +264,11 @@ fn is_name(name: &str) -> bool {
         && !name.contains("..")
         && !name.contains("@{")
         && name.split('/').all(is_component)
+}
+
+// Returns whether a text is the name of a reference below `refs/`.
+fn is_reference(text: &str) -> bool {
+    text.as_bytes().starts_with(REFERENCES) && is_name(text)
 }
 
 // Returns whether git accepts a component of a reference's name.

@@ -1,11 +1,11 @@
 //! The submodules that don't count.
 
-use crate::config::{Config, Variable};
 use crate::error::RepositoryError;
 use crate::files::{joined, read_if_there};
 use crate::regular::SMALL_LIMIT;
 use crate::sources::config_of;
 use bstr::BStr;
+use git_config::{Config, Variable};
 use status_index::State;
 use std::alloc::{AllocError, Global};
 use std::collections::BTreeMap;

@@ -1,11 +1,12 @@
 //! The folders of a repository: its own, and that of its worktree.
 
-use crate::config::Config;
 use crate::error::RepositoryError;
 use crate::files::{bad_environment, canonical, is_folder, joined, variable};
+use crate::folders::Folders;
 use crate::git_dir::{Refusal, common_dir_of, git_dir_in, is_git_dir, named_git_dir, parent_of};
 use crate::regular::Unread;
 use crate::settings::{OwnSettings, Settings, read_own, read_settings};
+use git_config::Config;
 use std::alloc::{AllocError, Global};
 use std::io;
 use std::rt::{Env, Files};
@@ -29,12 +30,19 @@ pub struct Repository {
     pub config: Config,
 }
 
+// The name of a repository's folder in that of its worktree.
+const GIT_DIR: &str = ".git";
+
 // A repository that was found.
 #[derive(Drop)]
-struct Place {
+struct Found {
     git_dir: String,
     // The worktree, if neither the settings nor the environment name one. None within a repository's own folder.
     top: Option<String>,
+    // The path by which git names the repository's folder, if no file does.
+    name: Option<String>,
+    // Whether `GIT_DIR` names it, or the working folder has it.
+    is_near: bool,
 }
 
 impl Repository {
@@ -50,16 +58,18 @@ impl Repository {
         folder: &str,
     ) -> Result<Repository, RepositoryError> {
         let folder = working_folder(rt, folder)?;
-        let place = find(rt, folder.as_str())?;
-        let (folders, own) = folders_of(rt, folder.as_str(), place)?;
-        let (settings, config) = read_settings(rt, folders.top.as_str(), own)?;
-        let prefix = prefix_of(rt.alloc(), folders.top.as_str(), folder.as_str())?;
+        let found = find(rt, folder.as_str())?;
+        let (folders, own) = folders_of(rt, folder, found)?;
+        let (settings, config) = read_settings(rt, &folders, own)?;
         let index = index_of(rt, &folders)?;
         let Folders {
+            working,
+            top,
             git_dir,
             common_dir,
-            top,
+            ..
         } = folders;
+        let prefix = prefix_of(rt.alloc(), top.as_str(), working.as_str())?;
         Ok(Repository {
             git_dir,
             common_dir,
@@ -72,30 +82,72 @@ impl Repository {
     }
 }
 
-// The folders of a repository with a worktree, as `Repository` has them.
-#[derive(Drop)]
-struct Folders {
-    git_dir: String,
-    common_dir: String,
-    top: String,
-}
-
 // Returns the folders of a repository that was found from a working folder, and its own settings.
 fn folders_of<R: Files + Env + AllocGlobal>(
     rt: &R,
-    folder: &str,
-    place: Place,
+    working: String,
+    found: Found,
 ) -> Result<(Folders, OwnSettings), RepositoryError> {
-    let Place { git_dir, top } = place;
+    let Found {
+        git_dir,
+        top,
+        name,
+        is_near,
+    } = found;
     let common_dir = common_dir_of(rt, git_dir.as_str())?;
     let own = read_own(rt, git_dir.as_str(), common_dir.as_str())?;
-    let top = top_of(rt, folder, git_dir.as_str(), &own, top)?;
+    let top = top_of(rt, working.as_str(), git_dir.as_str(), &own, top)?;
+    let name = if has_named(rt, &own)? {
+        known_name(rt.alloc(), top.as_str(), working.as_str(), name, is_near)?
+    } else {
+        name
+    };
     let folders = Folders {
+        working,
+        top,
         git_dir,
         common_dir,
-        top,
+        name,
     };
     Ok((folders, own))
+}
+
+// Returns whether the environment names the repository or its worktree, or the settings name the worktree.
+fn has_named<R: Env + AllocGlobal>(rt: &R, own: &OwnSettings) -> Result<bool, RepositoryError> {
+    Ok(
+        own.worktree.is_some()
+            || variable(rt, "GIT_DIR")?.is_some()
+            || variable(rt, "GIT_WORK_TREE")?.is_some(),
+    )
+}
+
+// Returns the path by which git knows a repository's folder, if something names that or the worktree. Git changes to the worktree's
+// top: from a folder below it uses the path without links, and from a folder outside the whole path, or the rest of it after that
+// of the top.
+fn known_name(
+    alloc: Global,
+    top: &str,
+    working: &str,
+    name: Option<String>,
+    is_near: bool,
+) -> Result<Option<String>, AllocError> {
+    let Some(name) = name else {
+        return Ok(None);
+    };
+    if !is_near {
+        return Ok(None);
+    }
+    if working == top || name.starts_with('/') && below(top, working).is_none() {
+        return Ok(Some(name));
+    }
+    if below(top, working).is_some() {
+        return Ok(None);
+    }
+    let path = joined(alloc, working, name.as_str())?;
+    match below(top, path.as_str()) {
+        Some(rest) => Ok(Some(String::from_str(alloc, rest)?)),
+        None => Ok(Some(path)),
+    }
 }
 
 // Returns the index file: the one that the environment names, otherwise the repository's own.
@@ -134,14 +186,18 @@ fn not_a_folder(alloc: Global, path: &str, why: Unread) -> RepositoryError {
     }
 }
 
-fn find<R: Files + Env + AllocGlobal>(rt: &R, folder: &str) -> Result<Place, RepositoryError> {
+fn find<R: Files + Env + AllocGlobal>(rt: &R, folder: &str) -> Result<Found, RepositoryError> {
     let alloc = rt.alloc();
     match variable(rt, "GIT_DIR")? {
-        Some(path) => {
-            let path = joined(alloc, folder, path.as_str())?;
-            Ok(Place {
+        Some(name) if name.is_empty() => Err(RepositoryError::NotARepository { path: name }),
+        Some(name) => {
+            let path = joined(alloc, folder, name.as_str())?;
+            let is_named = is_folder(rt, path.as_str())?;
+            Ok(Found {
                 git_dir: named_git_dir(rt, path)?,
                 top: Some(String::from_str(alloc, folder)?),
+                name: is_named.then_some(name),
+                is_near: true,
             })
         }
         None => match variable(rt, "GIT_CEILING_DIRECTORIES")? {
@@ -156,11 +212,11 @@ fn search<R: Files + AllocGlobal>(
     rt: &R,
     folder: &str,
     ceilings: &str,
-) -> Result<Place, RepositoryError> {
+) -> Result<Found, RepositoryError> {
     let mut here = folder;
     for _ in 0..usize::MAX {
-        if let Some(place) = place_in(rt, here)? {
-            return Ok(place);
+        if let Some(found) = found_in(rt, here, here == folder)? {
+            return Ok(found);
         }
         match parent_of(here) {
             Some(parent) if !is_ceiling(parent, ceilings) => here = parent,
@@ -171,17 +227,30 @@ fn search<R: Files + AllocGlobal>(
 }
 
 // Returns the repository of a folder: the one that has its worktree there, or the one whose own folder it is.
-fn place_in<R: Files + AllocGlobal>(
+fn found_in<R: Files + AllocGlobal>(
     rt: &R,
     folder: &str,
-) -> Result<Option<Place>, RepositoryError> {
+    is_near: bool,
+) -> Result<Option<Found>, RepositoryError> {
+    let alloc = rt.alloc();
     if let Some(git_dir) = git_dir_in(rt, folder, Refusal::IsMissing)? {
-        let top = Some(String::from_str(rt.alloc(), folder)?);
-        return Ok(Some(Place { git_dir, top }));
+        let is_named = git_dir == joined(alloc, folder, GIT_DIR)?;
+        let name = String::from_str(alloc, GIT_DIR)?;
+        return Ok(Some(Found {
+            git_dir,
+            top: Some(String::from_str(alloc, folder)?),
+            name: is_named.then_some(name),
+            is_near,
+        }));
     }
     if is_git_dir(rt, folder, Refusal::IsMissing)? {
-        let git_dir = String::from_str(rt.alloc(), folder)?;
-        return Ok(Some(Place { git_dir, top: None }));
+        let git_dir = String::from_str(alloc, folder)?;
+        return Ok(Some(Found {
+            name: Some(git_dir.clone()?),
+            git_dir,
+            top: None,
+            is_near,
+        }));
     }
     Ok(None)
 }

@@ -4,7 +4,7 @@ use crate::error::RepositoryError;
 use crate::location::Repository;
 use crate::sources::is_set;
 use crate::user_files::{UserFile, user_file};
-use std::rt::Env;
+use std::rt::{Env, Files};
 
 /// The attribute file of the user.
 const USER_FILE: UserFile = UserFile {
@@ -17,7 +17,7 @@ const USER_FILE: UserFile = UserFile {
 ///
 /// # Errors
 /// A value that names a file names none, an environment variable can't be read, or out of memory.
-pub fn outer_files<R: Env + AllocGlobal>(
+pub fn outer_files<R: Files + Env + AllocGlobal>(
     rt: &R,
     repository: &Repository,
 ) -> Result<Vec<String>, RepositoryError> {

@@ -1,11 +1,13 @@
 //! A repository's settings, from git's configuration.
 
-use crate::config::Config;
 use crate::error::RepositoryError;
 use crate::files::{joined, path_of, variable};
+use crate::folders::Folders;
 use crate::format::{Format, read_format};
-use crate::sources::{append_environment, read_file, read_outer};
-use crate::values::{is_text, switch, switch_or, switch_or_word};
+use crate::includes::with_includes;
+use crate::sources::{Source, read_environment, read_file, read_outer};
+use crate::switches::{switch, switch_or, switch_or_word};
+use git_config::{Config, Variable, is_text};
 use status_index::HashKind;
 use std::alloc::Global;
 use std::rt::{Env, Files};
@@ -35,15 +37,13 @@ pub struct Settings {
     /// Whether a file that a sparse checkout leaves out counts if it is there (`core.sparseCheckout` without
     /// `sparse.expectFilesOutsideOfPatterns`).
     pub counts_left_out: bool,
-    /// Whether the configuration includes files. They aren't read.
-    pub has_include: bool,
 }
 
 /// The settings of a repository's own files of configuration.
 #[derive(Debug, Drop)]
 pub struct OwnSettings {
-    /// Their variables.
-    pub config: Config,
+    /// The files, with their variables, the stronger one last.
+    pub sources: Vec<Source>,
     /// The digest that makes ids (`extensions.objectFormat`).
     pub kind: HashKind,
     /// Whether the repository has no worktree (`core.bare`). None if that isn't set.
@@ -62,49 +62,44 @@ pub fn read_own<R: Files + AllocGlobal>(
     git_dir: &str,
     common_dir: &str,
 ) -> Result<OwnSettings, RepositoryError> {
-    let path = joined(rt.alloc(), common_dir, "config")?;
-    let mut config = read_file(rt, path.as_str())?;
-    let format = read_format(rt.alloc(), &config)?;
-    if format.has_worktree_config {
-        append_own(rt, git_dir, &mut config)?;
-    }
+    let alloc = rt.alloc();
+    let common = read_file(rt, joined(alloc, common_dir, "config")?)?;
+    let format = read_format(alloc, &common.config)?;
     let is_linked = git_dir != common_dir && !format.has_worktree_config;
+    let mut sources = Vec::new(alloc);
+    sources.push(common)?;
+    if format.has_worktree_config {
+        sources.push(read_file(rt, joined(alloc, git_dir, "config.worktree")?)?)?;
+    }
     let (bare, worktree) = if is_linked {
         (None, None)
     } else {
-        read_place(rt.alloc(), &config, format)?
+        read_place(alloc, &sources, format)?
     };
     Ok(OwnSettings {
-        config,
+        sources,
         kind: format.kind,
         bare,
         worktree,
     })
 }
 
-// Appends the configuration that a worktree has of its own.
-fn append_own<R: Files + AllocGlobal>(
-    rt: &R,
-    git_dir: &str,
-    config: &mut Config,
-) -> Result<(), RepositoryError> {
-    let path = joined(rt.alloc(), git_dir, "config.worktree")?;
-    Ok(config.append(read_file(rt, path.as_str())?)?)
-}
-
-/// Adds the configuration of the system, the user and the environment to a repository's own, and returns the settings. `top`
-/// is the worktree's folder, in which relative paths of the environment start.
+/// Adds the configuration of the system, the user and the environment to a repository's own, with the files that they include, and
+/// returns the settings. Relative paths of the environment start in the worktree's folder.
 ///
 /// # Errors
 /// A file or a value can't be read, or out of memory.
 pub fn read_settings<R: Files + Env + AllocGlobal>(
     rt: &R,
-    top: &str,
+    folders: &Folders,
     own: OwnSettings,
 ) -> Result<(Settings, Config), RepositoryError> {
-    let mut config = read_outer(rt, top)?;
-    config.append(own.config)?;
-    append_environment(rt, &mut config)?;
+    let mut sources = read_outer(rt, folders.top.as_str())?;
+    for source in own.sources {
+        sources.push(source)?;
+    }
+    sources.push(read_environment(rt)?)?;
+    let config = with_includes(rt, folders, &sources)?;
     let settings = settings_in(rt, own.kind, &config)?;
     Ok((settings, config))
 }
@@ -129,7 +124,6 @@ fn settings_in<R: Env + AllocGlobal>(
         ignore_case: switch_or(alloc, config, "core.ignorecase", false)?,
         has_other_attributes: has_other_attributes(rt, config)?,
         counts_left_out: counts_left_out(alloc, config)?,
-        has_include: config.has_include(),
     })
 }
 
@@ -153,15 +147,23 @@ fn has_other_attributes<R: Env + AllocGlobal>(
     )
 }
 
-// Returns whether a repository has no worktree, and the worktree that it names. Both are read, and then count only if the
-// format is stated.
+// Returns whether a repository has no worktree, and the worktree that it names, by its own files. Both are read, and then count
+// only if the format is stated.
 fn read_place(
     alloc: Global,
-    config: &Config,
+    sources: &[Source],
     format: Format,
 ) -> Result<(Option<bool>, Option<String>), RepositoryError> {
-    let bare = switch(alloc, config, "core.bare")?;
-    let worktree = read_worktree(alloc, config)?;
+    let mut bare = None;
+    let mut worktree = None;
+    for source in sources {
+        bare = switch(alloc, &source.config, "core.bare")?.or(bare);
+        worktree = source.config.get(b"core", None, b"worktree").or(worktree);
+    }
+    let worktree = match worktree {
+        Some(found) => Some(worktree_of(alloc, found)?),
+        None => None,
+    };
     if format.is_stated {
         Ok((bare, worktree))
     } else {
@@ -169,19 +171,16 @@ fn read_place(
     }
 }
 
-// Returns the worktree that a repository names. None if it names none.
-fn read_worktree(alloc: Global, config: &Config) -> Result<Option<String>, RepositoryError> {
-    let Some(found) = config.get(b"core", None, b"worktree") else {
-        return Ok(None);
-    };
-    let path = path_of(alloc, found.value().unwrap_or(b""))?;
+// Returns the worktree that a variable names.
+fn worktree_of(alloc: Global, variable: &Variable) -> Result<String, RepositoryError> {
+    let path = path_of(alloc, variable.value().unwrap_or(b""))?;
     if path.is_empty() {
         return Err(RepositoryError::BadValue {
             name: "core.worktree",
             value: path,
         });
     }
-    Ok(Some(path))
+    Ok(path)
 }
 
 // Returns whether the last word of `core.checkStat` that git knows is `minimal`.

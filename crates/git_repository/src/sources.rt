@@ -1,12 +1,9 @@
 //! The files and environment variables that have git's configuration.
 
-use crate::config::{Config, ConfigError};
 use crate::error::RepositoryError;
 use crate::files::{bad_environment, configuration_folder, joined, read_if_there, variable};
-use crate::parameters::append_parameters;
-use crate::reader::read_config;
 use crate::regular::{SMALL_LIMIT, Unread};
-use crate::values::{bool_of, number_of};
+use git_config::{Config, ConfigError, append_parameters, bool_of, number_of, read_config};
 use std::alloc::{AllocError, Global};
 use std::io;
 use std::rt::{Env, Files};
@@ -14,15 +11,28 @@ use std::rt::{Env, Files};
 // The most variables that the environment may state.
 const ENVIRONMENT_LIMIT: i32 = 1 << 16;
 
+/// The variables of one file, or those of the environment.
+#[derive(Debug, Drop)]
+pub struct Source {
+    /// The path of their file, in whose folder relative paths of includes start. None if they are the environment's.
+    pub path: Option<String>,
+    /// The variables, without those of included files.
+    pub config: Config,
+}
+
 /// Reads a configuration file. One that isn't there has no variables.
 ///
 /// # Errors
 /// The file or a line of it can't be read, or out of memory.
-pub fn read_file<R: Files + AllocGlobal>(rt: &R, path: &str) -> Result<Config, RepositoryError> {
-    let Some(bytes) = read_if_there(rt, path, SMALL_LIMIT)? else {
-        return Ok(Config::new(rt.alloc()));
+pub fn read_file<R: Files + AllocGlobal>(rt: &R, path: String) -> Result<Source, RepositoryError> {
+    let config = match read_if_there(rt, path.as_str(), SMALL_LIMIT)? {
+        Some(bytes) => config_of(rt.alloc(), &bytes, path.as_str())?,
+        None => Config::new(rt.alloc()),
     };
-    config_of(rt.alloc(), &bytes, path)
+    Ok(Source {
+        path: Some(path),
+        config,
+    })
 }
 
 /// Returns the configuration of these bytes, which are those of the file at a path.
@@ -40,34 +50,35 @@ pub fn config_of(alloc: Global, bytes: &[u8], path: &str) -> Result<Config, Repo
     }
 }
 
-/// Reads the configuration of the system and of the user. As in git, a relative path of the environment starts at the
-/// worktree's top.
+/// Reads the configuration of the system and of the user, the system's first. As in git, a relative path of the environment starts
+/// at the worktree's top.
 ///
 /// # Errors
 /// A file or a value can't be read, or out of memory.
 pub fn read_outer<R: Files + Env + AllocGlobal>(
     rt: &R,
     top: &str,
-) -> Result<Config, RepositoryError> {
-    let mut config = read_system(rt, top)?;
-    match variable(rt, "GIT_CONFIG_GLOBAL")? {
-        Some(path) => {
-            let path = from_top(rt.alloc(), top, path)?;
-            config.append(read_user_file(rt, path.as_str())?)?;
-        }
-        None => append_user(rt, top, &mut config)?,
+) -> Result<Vec<Source>, RepositoryError> {
+    let alloc = rt.alloc();
+    let mut sources = Vec::new(alloc);
+    if let Some(path) = system_file(rt, top)? {
+        sources.push(read_file(rt, path)?)?;
     }
-    Ok(config)
+    match variable(rt, "GIT_CONFIG_GLOBAL")? {
+        Some(path) => append_user_file(rt, from_top(alloc, top, path)?, &mut sources)?,
+        None => append_user(rt, top, &mut sources)?,
+    }
+    Ok(sources)
 }
 
-// Reads the configuration of the system.
-fn read_system<R: Files + Env + AllocGlobal>(rt: &R, top: &str) -> Result<Config, RepositoryError> {
+// Returns the path of the system's configuration file. None if the environment leaves it out.
+fn system_file<R: Env + AllocGlobal>(rt: &R, top: &str) -> Result<Option<String>, RepositoryError> {
     if is_set(rt, "GIT_CONFIG_NOSYSTEM")? {
-        return Ok(Config::new(rt.alloc()));
+        return Ok(None);
     }
     match variable(rt, "GIT_CONFIG_SYSTEM")? {
-        Some(path) => read_file(rt, from_top(rt.alloc(), top, path)?.as_str()),
-        None => read_file(rt, "/etc/gitconfig"),
+        Some(path) => Ok(Some(from_top(rt.alloc(), top, path)?)),
+        None => Ok(Some(String::from_str(rt.alloc(), "/etc/gitconfig")?)),
     }
 }
 
@@ -79,11 +90,15 @@ fn from_top(alloc: Global, top: &str, path: String) -> Result<String, AllocError
     joined(alloc, top, path.as_str())
 }
 
-// Reads a configuration file of the user. As in git, one that may not be read has no variables.
-fn read_user_file<R: Files + AllocGlobal>(rt: &R, path: &str) -> Result<Config, RepositoryError> {
+// Appends a configuration file of the user. As in git, one that may not be read has no variables.
+fn append_user_file<R: Files + AllocGlobal>(
+    rt: &R,
+    path: String,
+    sources: &mut Vec<Source>,
+) -> Result<(), RepositoryError> {
     match read_file(rt, path) {
-        Ok(config) => Ok(config),
-        Err(error) if is_denied(&error) => Ok(Config::new(rt.alloc())),
+        Ok(source) => Ok(sources.push(source)?),
+        Err(error) if is_denied(&error) => Ok(()),
         Err(error) => Err(error),
     }
 }
@@ -112,54 +127,50 @@ pub fn is_set<R: Env + AllocGlobal>(rt: &R, name: &'static str) -> Result<bool, 
     }
 }
 
-// Appends the configuration of the user.
+// Appends the configuration files of the user.
 fn append_user<R: Files + Env + AllocGlobal>(
     rt: &R,
     top: &str,
-    config: &mut Config,
+    sources: &mut Vec<Source>,
 ) -> Result<(), RepositoryError> {
     let home = variable(rt, "HOME")?;
     if let Some(folder) = configuration_folder(rt, &home)? {
-        append_below(rt, top, folder.as_str(), "git/config", config)?;
+        append_below(rt, top, folder.as_str(), "git/config", sources)?;
     }
     if let Some(home) = home {
-        append_below(rt, top, home.as_str(), ".gitconfig", config)?;
+        append_below(rt, top, home.as_str(), ".gitconfig", sources)?;
     }
     Ok(())
 }
 
-// Appends the configuration of a file in a folder of the user.
+// Appends the configuration file in a folder of the user.
 fn append_below<R: Files + AllocGlobal>(
     rt: &R,
     top: &str,
     folder: &str,
     name: &str,
-    config: &mut Config,
+    sources: &mut Vec<Source>,
 ) -> Result<(), RepositoryError> {
     let folder = joined(rt.alloc(), top, folder)?;
     let path = joined(rt.alloc(), folder.as_str(), name)?;
-    Ok(config.append(read_user_file(rt, path.as_str())?)?)
+    append_user_file(rt, path, sources)
 }
 
-/// Appends the variables that `GIT_CONFIG_COUNT`, `GIT_CONFIG_KEY_0`, `GIT_CONFIG_VALUE_0` and so on state, and then those
+/// Returns the variables that `GIT_CONFIG_COUNT`, `GIT_CONFIG_KEY_0`, `GIT_CONFIG_VALUE_0` and so on state, and then those
 /// of `GIT_CONFIG_PARAMETERS`.
 ///
 /// # Errors
 /// They state none, or out of memory.
-pub fn append_environment<R: Env + AllocGlobal>(
-    rt: &R,
-    config: &mut Config,
-) -> Result<(), RepositoryError> {
-    append_counted(rt, config)?;
+pub fn read_environment<R: Env + AllocGlobal>(rt: &R) -> Result<Source, RepositoryError> {
+    let mut config = Config::new(rt.alloc());
+    append_counted(rt, &mut config)?;
     let name = "GIT_CONFIG_PARAMETERS";
-    let Some(text) = variable(rt, name)? else {
-        return Ok(());
-    };
-    if append_parameters(rt.alloc(), text.as_str(), config)? {
-        Ok(())
-    } else {
-        Err(bad_environment(rt.alloc(), name))
+    if let Some(text) = variable(rt, name)?
+        && !append_parameters(rt.alloc(), text.as_str(), &mut config)?
+    {
+        return Err(bad_environment(rt.alloc(), name));
     }
+    Ok(Source { path: None, config })
 }
 
 // Appends the variables that `GIT_CONFIG_COUNT` counts.

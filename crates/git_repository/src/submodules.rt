@@ -135,6 +135,6 @@ fn known_head<R: Files + AllocGlobal>(
 ) -> Result<Option<ObjectId>, RepositoryError> {
     let common_dir = common_dir_of(rt, git_dir)?;
     let path = joined(rt.alloc(), common_dir.as_str(), "config")?;
-    read_format(rt.alloc(), &read_file(rt, path.as_str())?)?;
+    read_format(rt.alloc(), &read_file(rt, path)?.config)?;
     head_of(rt, git_dir, common_dir.as_str())
 }

@@ -1,11 +1,11 @@
 //! The files of the user that the configuration names, such as that of `core.attributesFile`.
 
-use crate::config::Config;
 use crate::error::RepositoryError;
 use crate::files::{configuration_folder, joined, path_of, variable};
+use crate::homes::expanded;
 use crate::location::Repository;
-use std::alloc::Global;
-use std::rt::Env;
+use git_config::Config;
+use std::rt::{Env, Files};
 
 /// A file of the user.
 #[derive(Clone, Copy)]
@@ -23,13 +23,13 @@ pub struct UserFile {
 ///
 /// # Errors
 /// The variable's value names no file, an environment variable can't be read, or out of memory.
-pub fn user_file<R: Env + AllocGlobal>(
+pub fn user_file<R: Files + Env + AllocGlobal>(
     rt: &R,
     repository: &Repository,
     file: UserFile,
 ) -> Result<Option<String>, RepositoryError> {
     let home = variable(rt, "HOME")?;
-    let found = match set_file(rt.alloc(), &repository.config, file, &home)? {
+    let found = match set_file(rt, &repository.config, file)? {
         Some(path) => Some(path),
         None => usual_file(rt, file, &home)?,
     };
@@ -40,16 +40,15 @@ pub fn user_file<R: Env + AllocGlobal>(
 }
 
 // Returns the file of a variable. As in git, a value that names no file is an error even if a later one overrides it.
-fn set_file(
-    alloc: Global,
+fn set_file<R: Files + Env + AllocGlobal>(
+    rt: &R,
     config: &Config,
     file: UserFile,
-    home: &Option<String>,
 ) -> Result<Option<String>, RepositoryError> {
     let mut set = None;
     for found in config.variables() {
         if found.is_named(b"core", None, file.key) {
-            set = Some(named_file(alloc, file, found.value(), home)?);
+            set = Some(named_file(rt, file, found.value())?);
         }
     }
     Ok(set)
@@ -67,25 +66,19 @@ fn usual_file<R: Env + AllocGlobal>(
     }
 }
 
-// Returns the file of a path that is set, and may begin with `~` for the home folder. Those of other users aren't known, and
-// neither is git's own folder, `%(prefix)/`.
-fn named_file(
-    alloc: Global,
+// Returns the file of a path that is set, and may begin with `~`.
+fn named_file<R: Files + Env + AllocGlobal>(
+    rt: &R,
     file: UserFile,
     value: Option<&[u8]>,
-    home: &Option<String>,
 ) -> Result<String, RepositoryError> {
     let Some(value) = value else {
-        return Err(bad_file(file, String::new(alloc)));
+        return Err(bad_file(file, String::new(rt.alloc())));
     };
-    let path = path_of(alloc, value)?;
-    match (path.strip_prefix('~'), home) {
-        (None, _) if path.starts_with("%(prefix)/") => Err(bad_file(file, path)),
-        (None, _) => Ok(path),
-        (Some(rest), Some(home)) if rest.is_empty() || rest.starts_with('/') => {
-            Ok(format!(in alloc; "{home}{rest}")?)
-        }
-        (Some(_), _) => Err(bad_file(file, path)),
+    let path = path_of(rt.alloc(), value)?;
+    match expanded(rt, path.as_str())? {
+        Some(path) => Ok(path),
+        None => Err(bad_file(file, path)),
     }
 }
 

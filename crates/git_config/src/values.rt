@@ -1,9 +1,5 @@
 //! The values of variables, as git reads them.
 
-use crate::config::Config;
-use crate::error::RepositoryError;
-use std::alloc::Global;
-
 /// Returns the boolean that git reads. A value that isn't there is true, and an empty one false. Numbers are true,
 /// except for 0. None if git refuses the value.
 pub fn bool_of(value: Option<&[u8]>) -> Option<bool> {
@@ -68,70 +64,6 @@ fn unsigned_of(digits: &str) -> Option<u64> {
         return None;
     }
     u64::from_str_radix(digits, radix).ok()
-}
-
-/// Returns a boolean by its whole name, section and name in lower case. None if it isn't set.
-///
-/// # Errors
-/// Git refuses a value, also one that a later one overrides, or out of memory.
-pub fn switch(
-    alloc: Global,
-    config: &Config,
-    name: &'static str,
-) -> Result<Option<bool>, RepositoryError> {
-    switch_or_word(alloc, config, name, None)
-}
-
-/// Returns a boolean, or this one if it isn't set.
-///
-/// # Errors
-/// As for `switch`.
-pub(crate) fn switch_or(
-    alloc: Global,
-    config: &Config,
-    name: &'static str,
-    unset: bool,
-) -> Result<bool, RepositoryError> {
-    Ok(switch(alloc, config, name)?.unwrap_or(unset))
-}
-
-/// Returns a boolean that may also be this word, which is true.
-///
-/// # Errors
-/// As for `switch`.
-pub fn switch_or_word(
-    alloc: Global,
-    config: &Config,
-    name: &'static str,
-    word: Option<&[u8]>,
-) -> Result<Option<bool>, RepositoryError> {
-    let Some((section, last)) = name.split_once('.') else {
-        return Ok(None);
-    };
-    let mut found = None;
-    for variable in config.variables() {
-        if variable.is_named(section.as_bytes(), None, last.as_bytes()) {
-            found = Some(is_on(alloc, name, variable.value(), word)?);
-        }
-    }
-    Ok(found)
-}
-
-// Returns the boolean that a value of a variable is. This word is true.
-fn is_on(
-    alloc: Global,
-    name: &'static str,
-    value: Option<&[u8]>,
-    word: Option<&[u8]>,
-) -> Result<bool, RepositoryError> {
-    let is_word = word.is_some_and(|word| is_text(value, word));
-    match if is_word { Some(true) } else { bool_of(value) } {
-        Some(is_on) => Ok(is_on),
-        None => Err(RepositoryError::BadBoolean {
-            name,
-            value: String::from_utf8_lossy(alloc, value.unwrap_or(b""))?,
-        }),
-    }
 }
 
 /// Returns whether a value is a word, in lower or upper case.

@@ -68,6 +68,22 @@ impl Variable {
             .strip_prefix(b".")
     }
 
+    /// Returns whether this is `include.path`, whose value is the path of a file that is read there.
+    pub fn is_include(&self) -> bool {
+        self.is_named(b"include", None, b"path")
+    }
+
+    /// Returns the condition of a section `includeIf`. If it holds, the value of the variable `path` is the path of a file that is
+    /// read there. None for a variable of another section.
+    pub fn include_condition(&self) -> Option<&[u8]> {
+        self.subsection_of(b"includeif")
+    }
+
+    /// Returns whether this is `remote.NAME.url`.
+    pub fn is_remote_url(&self) -> bool {
+        self.has_name(b"url") && self.subsection_of(b"remote").is_some()
+    }
+
     /// Returns the name, if the variable is in this section and in no subsection. The section is in lower case.
     pub fn name_in(&self, section: &[u8]) -> Option<&[u8]> {
         (self.header.as_slice() == section).then_some(self.name.as_slice())
@@ -92,7 +108,7 @@ impl Config {
     }
 
     /// Begins a section: the variables that are added from now on are below another header.
-    pub(crate) fn begin_section(&mut self) {
+    pub fn begin_section(&mut self) {
         self.sections = self.sections.saturating_add(1);
     }
 
@@ -131,30 +147,16 @@ impl Config {
         found
     }
 
-    /// Returns whether a variable includes another file: `include.path`, or `includeIf.CONDITION.path` whether or not the
-    /// condition holds. Such files aren't read.
-    pub fn has_include(&self) -> bool {
-        self.variables.iter().any(|variable| {
-            variable.is_named(b"include", None, b"path")
-                || variable.has_name(b"path") && variable.subsection_of(b"includeif").is_some()
-        })
-    }
-
-    /// Appends the variables of a file that is read later, which override the earlier ones.
+    /// Appends a copy of a variable of another configuration, below the header that was begun last.
     ///
     /// # Errors
     /// Out of memory.
-    pub fn append(&mut self, later: Config) -> Result<(), AllocError> {
-        self.begin_section();
-        for variable in later.variables {
-            let section = self.sections.saturating_add(variable.section);
-            self.variables.push(Variable {
-                section,
-                ..variable
-            })?;
-        }
-        self.sections = self.sections.saturating_add(later.sections);
-        Ok(())
+    pub fn add_copy(&mut self, alloc: Global, variable: &Variable) -> Result<(), AllocError> {
+        let value = match &variable.value {
+            Some(value) => Some(Vec::from_slice(alloc, value)?),
+            None => None,
+        };
+        self.add(&variable.header, variable.name.clone()?, value)
     }
 
     /// Appends a variable by its whole name: section, subsection if any, and name with dots between. Without a value it

@@ -28,8 +28,7 @@ struct Reader {
     config: Config,
 }
 
-/// Reads a configuration file as git reads it, with two exceptions. Blanks within a value stay as they are, as of git
-/// 2.45, and included files aren't read.
+/// Reads the bytes of a configuration file as git reads them, but blanks within a value stay as they are, as of git 2.45.
 ///
 /// # Errors
 /// The first line that git can't read, by the number that git reports, or out of memory.
