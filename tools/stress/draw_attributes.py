@@ -1,13 +1,15 @@
 """Draws small git repositories with attribute files from seeds, for compare_dirty.py and for tests of git_dirty.
 
-Each file has a blob in the index and a content in the worktree, mostly the same text with other line ends. So git lists a
-file exactly if attributes and settings don't make its blob of its content. No entry has the stat of its file, so that git
+Each file has a blob in the index and a content in the worktree, mostly the same text with other line ends, or what `ident` or
+git-lfs make of it. So git lists a file exactly if attributes and settings don't make its blob of its content. No entry has the stat of its file, so that git
 reads each file, except for those with another size.
 """
 
 import os
+import re
 
 from stress import draw_repositories
+from support import lfs
 from support.index_bytes import SIZE, parts_of, with_stat
 from support.repositories import SETTINGS, make_git_folder, read, write
 
@@ -27,14 +29,18 @@ CLASSES += rb" [[:alpha:] [[:other:]%] [[:ALPHA:]%]"
 WORDS = ["text"] * 6 + ["-text"] * 4 + ["text=auto"] * 6 + ["!text"] * 2 + ["binary", "m", "n", "crlf"] * 2
 WORDS += ["-m", "!m", "m=1", "-binary", "!binary", "eol=lf", "eol=crlf", "-eol", "eol", "!eol", "eol=LF", "eol=", "-crlf"]
 WORDS += ["!crlf", "crlf=input", "crlf=auto", "text=input", "text=AUTO", "text=", "text=a=b", "-text=auto", "diff", "merge=x"]
-WORDS += ["Text", "a.b_c-1"]
+WORDS += ["Text", "a.b_c-1"] + ["ident"] * 6 + ["-ident", "!ident", "ident=x", "-filter", "!filter", "filter"] + ["filter=lfs"] * 3
 WRONG_WORDS = ["te$t", "-", "=x", "--text", "!", "é", "text,", "-=", '"text"']
 MACROS = ["[attr]m text", "[attr]m -text", "[attr]m n", "[attr]n text=auto", "[attr]n m", "[attr]n crlf -text"]
 MACROS += ["[attr]binary -text", "[attr]binary text", "[attr]m !text crlf", "[attr]n eol=lf", "[attr]text crlf"]
-MACROS += ["[attr]m m -binary", "[attr]", "[attr]- text"]
+MACROS += ["[attr]m m -binary", "[attr]m ident", "[attr]n filter=lfs -text", "[attr]", "[attr]- text"]
 OTHER_LINES = ["", "# a text", "*", "!* text", " \t", "\\#a text", "\0* text", "* text\0 -text", "# \0"]
 ESCAPES = dict(zip(b'\a\b\t\n\v\f\r"\\', b'abtnvfr"\\'))
 ENDS = {"lf": [b"\n"], "crlf": [b"\r\n"], "mixed": [b"\n", b"\r\n"], "odd": [b"\n", b"\r\n", b"\r", b"\r\r\n", b""]}
+# What `ident` changes, and what it doesn't.
+IDS = [b"$Id$", b"$Id: x $", b"a $Id: x $ b", b"$Id: x $Id: y $", b"$Id: $Id$ $", b"$Id:$", b"$Id:", b"$Id", b"$", b"$$Id: x $", b"$id: x $", b"$Id x $"]
+IDS += [b"x $"]
+LFS = [("process", "git-lfs filter-process"), ("process", "git-lfs filter-process --skip"), ("clean", "git-lfs clean -- %f")]
 # The user's folder.
 USER = ".git/user"
 
@@ -81,8 +87,10 @@ class AttributeDrawing(draw_repositories.Drawing):
         """Returns a text, or something between a text and what git takes for binary."""
         if self.chance(0.05):
             return b""
+        if self.chance(0.05):
+            return lfs.pointer(b"x") + b"x" * self.random.choice([0, 0, 1])
         ends = ENDS[self.random.choice(["lf", "crlf", "crlf", "crlf", "mixed", "mixed", "odd"])]
-        kinds = [b"", b"foo", b"foo", "é".encode(), b"\t\b\x1b\f"]
+        kinds = [b"", b"foo", b"foo", "é".encode(), b"\t\b\x1b\f", *self.random.sample(IDS, 3)]
         lines = self.random.choices(kinds, k=self.random.randrange(1, 5)) + [self.near_binary()] * self.chance(0.25)
         text = b"".join(line + self.random.choice(ends) for line in lines)
         return text + self.random.choice([b"\x1a", b"\x1a", b"\x1a\x1a", b"\0", b"\r", b"bar"]) * self.chance(0.2)
@@ -96,7 +104,10 @@ class AttributeDrawing(draw_repositories.Drawing):
         """Returns what the index has for a content."""
         lines = content.replace(b"\r\n", b"\n")
         others = [content.replace(b"\r", b"")] * 2 + [lines.replace(b"\n", b"\r\n"), b"bar"]
-        return self.random.choice([lines] * 6 + [content] * 3 + others)
+        blob = self.random.choice([lines] * 6 + [content] * 3 + others)
+        if self.chance(0.4):
+            blob = re.sub(rb"\$Id:[^$\n]*\$", b"$Id$", blob)
+        return lfs.stored(content) if self.chance(0.15) else blob
 
     # Settings and attributes.
 
@@ -108,7 +119,10 @@ class AttributeDrawing(draw_repositories.Drawing):
             self.environment["XDG_CONFIG_HOME"] = self.path(f"{USER}/x")
         elif self.user_file == "named":
             lines += f"attributesFile = {self.random.choice(['~', USER, self.path(USER)])}/named\n"
-        self.configure(f"[core]\n{lines}")
+        lines = f"[core]\n{lines}"
+        if self.chance(0.5):
+            lines += '[filter "lfs"]\n%s = %s\n' % self.random.choice(LFS)
+        self.configure(lines)
         self.note(lines)
 
     def attribute_files(self):

@@ -27,6 +27,8 @@ SETTINGS = {"GIT_CONFIG_GLOBAL": os.devnull, "GIT_CONFIG_NOSYSTEM": "1", "LC_ALL
 for name in [name for name in os.environ if name.startswith("GIT_") and name != "GIT_DIRTY" or name == "XDG_CONFIG_HOME"]:
     del os.environ[name]
 os.environ.update(GIT_CONFIG_GLOBAL=os.devnull, GIT_CONFIG_NOSYSTEM="1")
+# Git starts the program of this folder in place of git-lfs.
+os.environ["PATH"] = os.pathsep.join([os.path.join(os.path.dirname(os.path.abspath(__file__)), "bin"), os.environ["PATH"]])
 # Git's status, and with the words by which it compares submodules as the program does: they are stronger than settings.
 STATUS = ["git", "--no-optional-locks", "status", "--porcelain", "-uno", "--no-renames"]
 STATUS_OF_HEADS = [*STATUS, "--ignore-submodules=dirty"]

@@ -7,7 +7,7 @@ use Rattle.status_index.specs.Entries.{IndexEntry}
 use Rattle.status_index.specs.declared.id.HashKind.{HashKind}
 use Rattle.status_index.specs.declared.id.ObjectId.{ObjectId}
 use Rattle.status_index.specs.declared.id.ObjectId.TheVariants.{Sha1 as Sha1Id, Sha256 as Sha256Id}
-use Rattle.git_attributes.specs.LineEnds.{AutoLaw, has_stored, is_kept, stored}
+use Rattle.git_attributes.specs.Clean.{AutoLaw, has_stored, is_kept, stored}
 use Rattle.git_attributes.specs.declared.normalization.Normalization.{Normalization}
 use Rattle.git_attributes.specs.Text.{begins_with_lf, has_crlf, has_lone_cr, is_binary, is_nul, normalized}
 

@@ -9,7 +9,7 @@ use Rattle.git_attributes.specs.contracts.assignment.Value as value
 use Rattle.git_attributes.specs.contracts.attributes.Attributes as attributes
 use Rattle.git_attributes.specs.contracts.line.Macro as macros
 use Rattle.git_attributes.specs.contracts.line.Rule as rule
-use Rattle.git_attributes.specs.contracts.line_ends.LineEnds as line_ends
+use Rattle.git_attributes.specs.contracts.clean.CleanFilter as clean_filter
 
 module _ (κ : NamedLft) where
   Value-sync : IsSync (value.the_row κ)
@@ -34,7 +34,7 @@ State-sync : IsSync state.the_row
 State-sync = search (Entry-sync, sendable, crosses) depth 60
 
 module _ (κ1 κ2 κ3 : NamedLft) where
-  pub LineEnds-send : IsSend (line_ends.the_row κ1 κ2 κ3)
-  LineEnds-send = search (Attributes-sync, State-sync, sendable, crosses) depth 60
+  pub CleanFilter-send : IsSend (clean_filter.the_row κ1 κ2 κ3)
+  CleanFilter-send = search (Attributes-sync, State-sync, sendable, crosses) depth 60
 
-pub ruleset filter_crosses = (LineEnds-send, sendable, crosses)
+pub ruleset filter_crosses = (CleanFilter-send, sendable, crosses)

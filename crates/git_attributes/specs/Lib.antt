@@ -1,7 +1,8 @@
 pub mod Assignments
+pub mod Clean
+pub mod Conversions
 pub mod Files
 pub mod FolderSteps
-pub mod LineEnds
 pub mod Lines
 pub mod Normalization
 pub mod Quoted

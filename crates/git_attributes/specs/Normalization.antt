@@ -28,13 +28,3 @@ abbrev pub normalization_of : List Given → Bool → Normalization
 normalization_of known auto =
     else_by (has_line_end (state_in (codes "eol") known)) auto
     (option_or (text_state (state_in (codes "text") known)) (text_state (state_in (codes "crlf") known)))
-
-abbrev pub is_asked : State → Bool
-is_asked Set = true
-is_asked (Text text) = true
-is_asked state = false
-
--- `filter`, `ident` or `working-tree-encoding` is set or has a text.
-abbrev pub is_unconverted : List Given → Bool
-is_unconverted known =
-    is_asked (state_in (codes "filter") known) || (is_asked (state_in (codes "ident") known) || is_asked (state_in (codes "working-tree-encoding") known))

@@ -1,6 +1,7 @@
-//! Git's attributes: those that attribute files assign to a path, and the line ends that git stores by them.
+//! Git's attributes: those that attribute files assign to a path, and the bytes that git stores by them.
 //!
-//! Begin at `line_ends`, the filter, which converts a file by its `normalization`, and compares that with git's rule.
+//! Begin at `clean`, the filter, which makes a file's `conversion`: to a pointer of git-lfs (`lfs`), of its line ends
+//! (`normalization`), and of `$Id$` (`ident`). It compares this with git's rule for line ends.
 //! `attributes` has the states that `files` give to a path's attributes: it reads their lines (`line`), which have a
 //! pattern or a macro, and assignments (`assignment`), between blanks or in quotes (`words`). The patterns are those of the
 //! crate `git_patterns`. `worktree_files` finds the attribute files within a worktree, and `laws` has the law of these files.
@@ -9,11 +10,12 @@
 
 pub mod assignment;
 pub mod attributes;
+pub mod clean;
+pub mod conversion;
 pub mod fault;
 pub mod files;
 pub mod laws;
 mod line;
-pub mod line_ends;
 pub mod normalization;
 mod shared_search;
 pub mod staged_files;
@@ -22,12 +24,11 @@ pub mod worktree_files;
 
 pub use assignment::{Assignment, Value};
 pub use attributes::{Attributes, Source};
+pub use clean::{CleanFilter, ids_decide_as_git_does};
+pub use conversion::{Configured, Steps, is_unconverted, steps_of};
 pub use fault::AttributeFault;
 pub use files::{AttributeFile, AttributeFiles, attributes_of};
-pub use line_ends::{LineEnds, ids_decide_as_git_does};
-pub use normalization::{
-    Normalization, is_binary, is_unconverted, normalization_of, push_normalized,
-};
+pub use normalization::{Normalization, is_binary, normalization_of, push_normalized};
 pub use shared_search::find_attribute_files;
 pub use staged_files::WithStaged;
 pub use worktree_files::{ATTRIBUTES_LIMIT, FolderSearch};

@@ -1,8 +1,7 @@
-//! How git stores a file with attributes of given states: which line ends it converts, what it stores of a text, and which
-//! attributes ask for a conversion that isn't made here.
+//! How git stores the line ends of a file with attributes of given states, and what it stores of a text.
 
 ghost use Rattle.std.specs.Prelude.{◌≡◌, map, ◌++◌, OnOk};
-ghost use Rattle.git_attributes.specs.Normalization.{has_line_end, is_asked, is_unconverted, normalization_of, text_state};
+ghost use Rattle.git_attributes.specs.Normalization.{has_line_end, normalization_of, text_state};
 ghost use Rattle.git_attributes.specs.Views.{given_of, state_of};
 ghost use Rattle.git_attributes.specs.Text.{begins_with_lf, eof_at_end, has_crlf, is_binary, is_nonprintable, is_printable, nonprintables, normalized};
 
@@ -66,23 +65,6 @@ pub fn normalization_of(known: &[Assignment<'_>], auto: bool) -> Normalization
         None if auto => Normalization::Auto,
         None => Normalization::Off,
     }
-}
-
-/// Returns whether a state asks for a conversion.
-fn is_asked(value: Value<'_>) -> bool
-    ensures { result ≡ is_asked (state_of value.entry) }
-{
-    matches!(value, Value::Set | Value::Text(_))
-}
-
-/// Returns whether attributes of these states ask for a conversion that isn't made here: `filter`, `ident` or
-/// `working-tree-encoding`.
-pub fn is_unconverted(known: &[Assignment<'_>]) -> bool
-    ensures { result ≡ is_unconverted (map given_of known.now) }
-{
-    is_asked(state_in(b"filter", known))
-        || (is_asked(state_in(b"ident", known))
-            || is_asked(state_in(b"working-tree-encoding", known)))
 }
 
 /// Control-Z, the end of a file of old systems.

@@ -505,7 +505,7 @@ pub(crate) fn settings_of(
         kind: found.kind,
         timestamp,
         options,
-        auto_line_ends: found.auto_line_ends,
+        conversions: found.conversions,
         notes: !request.quiet,
         stats: request.stats,
         lines: if stops {

@@ -8,7 +8,7 @@ use Rattle.std.proofs.lemmas.List.{append_assoc, map-append}
 use Rattle.std.proofs.lemmas.List.Elements.{All-append, All-cons, All-nil, All-weaker}
 use Rattle.std.proofs.lemmas.List.Folds.{list_any-append}
 use Rattle.bstr.specs.BStr.{bstr_bytes}
-use Rattle.git_attributes.specs.declared.line_ends.LineEnds.{LineEnds}
+use Rattle.git_attributes.specs.declared.clean.CleanFilter.{CleanFilter}
 use Rattle.git_status.specs.Runs.{Asking, Converting}
 use Rattle.status_base.specs.Openings.{MayOpen}
 use Rattle.status_base.specs.Sights.{MayStat}
@@ -37,7 +37,7 @@ noted p xs ys old mid new first second =
     second ∙ ap (λ (b : Bool). b || list_any p ys) first ∙ or_assoc old (list_any p xs) (list_any p ys) ∙ ap (λ (b : Bool). old || b) (sym (list_any-append p xs ys))
 
 module _ {U : Type 0} (may_stat : MayStat) (may_open : List ℕ → MayOpen) (may_link : List ℕ → Result (List ℕ) Fault → Type 0)
-    (may_report : IndexEntry → Result (Option U) (List ℕ) → Type 0) (settings : Settings) (filter : LineEnds) (index : State) where
+    (may_report : IndexEntry → Result (Option U) (List ℕ) → Type 0) (settings : Settings) (filter : CleanFilter) (index : State) where
   -- No path is explained.
   pub adds_none : (x : Explanations) → Adds may_stat may_open may_link may_report settings filter index [] x x
   adds_none x = record { found = []; all = refl; each = All-nil (IsExplained may_stat may_open may_link may_report settings filter index); lines = sym (or-false x.differs); faults = sym (or-false x.failed) }
@@ -99,7 +99,7 @@ report_within less more within (Some (Err text)) h = within (Err text) h
 
 -- The same for explanations of paths.
 pub adds_within : {U : Type 0} (may_stat : MayStat) (may_open : List ℕ → MayOpen) (may_link : List ℕ → Result (List ℕ) Fault → Type 0)
-    (less more : IndexEntry → Result (Option U) (List ℕ) → Type 0) (settings : Settings) (filter : LineEnds) (index : State) (es : List IndexEntry) (old new : Explanations)
+    (less more : IndexEntry → Result (Option U) (List ℕ) → Type 0) (settings : Settings) (filter : CleanFilter) (index : State) (es : List IndexEntry) (old new : Explanations)
     → ((e : IndexEntry) (r : Result (Option U) (List ℕ)) → less e r → more e r)
     → Adds may_stat may_open may_link less settings filter index es old new → Adds may_stat may_open may_link more settings filter index es old new
 adds_within may_stat may_open may_link less more settings filter index es old new within a = record {
@@ -132,7 +132,7 @@ link_anyhow may (Some (Err f)) h = λ n. h
 
 -- The node that was met at a path doesn't matter for what may be read there.
 pub adds_anyhow : {U : Type 0} (may_stat : MayStat) (may_open : List ℕ → MayOpen) (may_link : List ℕ → Result (List ℕ) Fault → Type 0) (may_report : IndexEntry → Result (Option U) (List ℕ) → Type 0)
-    (settings : Settings) (filter : LineEnds) (index : State) (es : List IndexEntry) (old new : Explanations) → Adds may_stat may_open may_link may_report settings filter index es old new
+    (settings : Settings) (filter : CleanFilter) (index : State) (es : List IndexEntry) (old new : Explanations) → Adds may_stat may_open may_link may_report settings filter index es old new
     → Adds may_stat (λ path r. (n : Metadata) → may_open path r) (λ path r. (n : Metadata) → may_link path r) may_report settings filter index es old new
 adds_anyhow may_stat may_open may_link may_report settings filter index es old new a = record {
   found = a.found;

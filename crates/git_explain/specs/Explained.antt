@@ -4,8 +4,8 @@ use Rattle.std.specs.FinMap as ids
 use Rattle.std.specs.List.{list_any}
 use Rattle.std.specs.Str.{bytes_eq}
 use Rattle.bstr.specs.BStr.{bstr_bytes}
-use Rattle.git_attributes.specs.LineEnds.{line_ends}
-use Rattle.git_attributes.specs.declared.line_ends.LineEnds.{LineEnds}
+use Rattle.git_attributes.specs.Clean.{cleaned}
+use Rattle.git_attributes.specs.declared.clean.CleanFilter.{CleanFilter}
 use Rattle.status_base.specs.Objects.{found_in}
 use Rattle.git_status.specs.Runs.{Asking, Converting, is_difference}
 use Rattle.status_call.specs.Inputs.{settings}
@@ -29,7 +29,7 @@ use Rattle.git_explain.specs.declared.explained.Explained.{Explained}
 use Rattle.git_explain.specs.declared.sight.Sight.{Sight}
 
 -- The query for the entries of one path, whose worktree and submodule return the results in the sight, and no others.
-abbrev pub by_sight : Settings → LineEnds → List ℕ → Sight → Query (Unit {0}) (Unit {0})
+abbrev pub by_sight : Settings → CleanFilter → List ℕ → Sight → Query (Unit {0}) (Unit {0})
 by_sight settings filter path sight = record {
   modelled = true;
   stat_options = settings.stat;
@@ -42,7 +42,7 @@ by_sight settings filter path sight = record {
   cached = λ _. None;
   prefix = path;
   included = λ p _. bytes_eq p path;
-  conversion = line_ends filter;
+  conversion = cleaned filter;
   blob = λ e. found_in ids.empty e.id;
   submodule = λ _. reported sight.submodule;
   compared = λ e n m. fast_answer e n m.file;
@@ -50,7 +50,7 @@ by_sight settings filter path sight = record {
 }
 
 -- The records and counts, or the fault, are those of the status theorem for the entries of the path, by its sight.
-abbrev pub IsStatusBySight : Settings → LineEnds → State → Explained → Type 0
+abbrev pub IsStatusBySight : Settings → CleanFilter → State → Explained → Type 0
 IsStatusBySight settings filter index x = IsStatusReport (by_sight settings filter (bstr_bytes x.path) x.sight) index [] x.answer (visits_of x.recorder)
 
 -- The status of the path didn't end early.
@@ -68,7 +68,7 @@ has_line x = list_any is_difference (visits_of x.recorder)
 -- The path's status is that of its sight, it didn't end early, and each result in the sight is one that may be returned for the
 -- entry.
 pub record IsExplained {U : Type 0} (may_stat : MayStat) (may_open : List ℕ → MayOpen) (may_link : List ℕ → Result (List ℕ) Fault → Type 0)
-    (may_report : IndexEntry → Result (Option U) (List ℕ) → Type 0) (settings : Settings) (filter : LineEnds) (index : State) (x : Explained) : Type 0 where
+    (may_report : IndexEntry → Result (Option U) (List ℕ) → Type 0) (settings : Settings) (filter : CleanFilter) (index : State) (x : Explained) : Type 0 where
   pub status : IsStatusBySight settings filter index x
   pub whole : IsWhole x.answer
   pub allowed : let e = entry_of x in IsSightAllowed may_stat (may_open e.path) (may_link e.path) (may_report e) x.sight

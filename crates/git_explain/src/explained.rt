@@ -6,7 +6,7 @@ ghost use Rattle.git_explain.specs.Explained.{has_line};
 use crate::recorded::RecordedFile;
 use crate::sight::{Sight, UNASKED};
 use bstr::BStr;
-use git_attributes::LineEnds;
+use git_attributes::CleanFilter;
 use git_status::has_difference;
 use status_base::worktree::{Fault, ToGit, ToGitOutcome};
 use status_call::index_as_worktree::{EntryStatus, Error, Outcome, Recorder};
@@ -81,7 +81,7 @@ impl<'index> Explained<'index> {
     pub(crate) fn with_id(
         mut self,
         alloc: Global,
-        filter: &LineEnds<'_, '_, '_>,
+        filter: &CleanFilter<'_, '_, '_>,
     ) -> Result<Explained<'index>, AllocError>
         ensures { IfOk result (λ x. x ≡ record self.entry { id = x.id }) }
     {
@@ -97,7 +97,7 @@ impl<'index> Explained<'index> {
 /// Out of memory.
 fn stored_id(
     alloc: Global,
-    filter: &LineEnds<'_, '_, '_>,
+    filter: &CleanFilter<'_, '_, '_>,
     path: BStr<'_>,
     sight: &Sight,
 ) -> Result<Option<ObjectId>, AllocError> {

@@ -10,7 +10,7 @@ use crate::explained::Explained;
 use crate::recorded::{RecordedSubmodule, RecordedWorktree};
 use crate::sight::Sight;
 use bstr::BStr;
-use git_attributes::LineEnds;
+use git_attributes::CleanFilter;
 use git_status::OnlyPath;
 use status_base::worktree::{
     GuardedWorktree, MemoryObjects, Metadata, NoLister, NodeKind, SubmoduleStatus, Worktree,
@@ -34,7 +34,7 @@ pub struct Explainer<'a, 'b, 'files, 'index, W, S> {
     /// The submodules.
     pub submodules: S,
     /// How line ends are converted.
-    pub filter: LineEnds<'b, 'files, 'index>,
+    pub filter: CleanFilter<'b, 'files, 'index>,
     /// How entries are compared. No listings are used.
     pub options: Options,
 }
@@ -172,13 +172,13 @@ impl<'a, 'b, 'files, 'index, W: Worktree, S: SubmoduleStatus> Explainer<
         })
     }
 
-    /// Returns the conversion of line ends.
-    fn filter(&self) -> LineEnds<'b, 'files, 'index>
+    /// Returns the conversions of files.
+    fn filter(&self) -> CleanFilter<'b, 'files, 'index>
         ensures { result ≡ self.now.filter }
     {
-        LineEnds {
+        CleanFilter {
             attributes: self.filter.attributes,
-            auto: self.filter.auto,
+            configured: self.filter.configured,
             index: self.filter.index,
             kind: self.filter.kind,
         }

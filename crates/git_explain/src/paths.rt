@@ -12,7 +12,7 @@ use crate::explainer::Explainer;
 use crate::json::{push_json, push_other_json};
 use crate::text::{push_other, push_text};
 use bstr::BStr;
-use git_attributes::{AttributeFiles, FolderSearch, LineEnds, attributes_of};
+use git_attributes::{AttributeFiles, FolderSearch, CleanFilter, attributes_of};
 use git_status::{Asked, Failure, FindBeside, Question};
 use status_base::worktree::{GuardedWorktree, Pathspec, SubmoduleStatus, Worktree};
 use status_index::{Entry, State};
@@ -77,9 +77,9 @@ pub(crate) fn explain_each<
         index,
         worktree: GuardedWorktree::new(worktree, false),
         submodules,
-        filter: LineEnds {
+        filter: CleanFilter {
             attributes: &attributes,
-            auto: settings.auto_line_ends,
+            configured: settings.conversions,
             index,
             kind: settings.kind,
         },

@@ -1,7 +1,7 @@
 //! A repository on disk: where it is, its settings, the attribute files of its worktree, and submodules' heads.
 //!
 //! Read `location` first, which finds the repository of a folder by `git_dir`. `settings` are those that a status depends
-//! on, with `format` and `switches`, from the files that `sources` names and `includes` adds, by the conditions that `folders` decides.
+//! on, with `format`, `switches` and `lfs`, from the files that `sources` names and `includes` adds, by the conditions that `folders` decides.
 //! `intended` is a worktree in which nested repositories count.
 //! `attribute_files` finds the attribute files: those of the worktree, and those that `outer_attributes` names. `ignore_files`
 //! reads ignore files, `user_files` finds the files of the user and `homes` the folders of users, and `nested` other repositories in a worktree. `submodules` compares the heads of submodules, which `heads` finds. `regular` opens files, and `files` reads small ones.
@@ -20,6 +20,7 @@ pub mod ignore_files;
 pub mod ignored;
 mod includes;
 pub mod intended;
+mod lfs;
 pub mod location;
 mod lock;
 mod nested;

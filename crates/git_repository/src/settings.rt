@@ -5,8 +5,10 @@ use crate::files::{joined, path_of, variable};
 use crate::folders::Folders;
 use crate::format::{Format, read_format};
 use crate::includes::with_includes;
+use crate::lfs::is_lfs;
 use crate::sources::{Source, read_environment, read_file, read_outer};
 use crate::switches::{switch, switch_or, switch_or_word};
+use git_attributes::Configured;
 use git_config::{Config, Variable, is_text};
 use status_index::HashKind;
 use std::alloc::Global;
@@ -27,8 +29,8 @@ pub struct Settings {
     pub check_stat_minimal: bool,
     /// Whether bytes above 127 of a path are quoted (`core.quotePath`).
     pub quote_path: bool,
-    /// Whether git decides by a file's bytes whether to convert its line ends, if its attributes don't (`core.autocrlf`).
-    pub auto_line_ends: bool,
+    /// Which conversions of files it asks for.
+    pub conversions: Configured,
     /// Whether git compares paths without regard to case (`core.ignoreCase`). Here they are compared exactly.
     pub ignore_case: bool,
     /// Whether git reads attributes elsewhere: newer versions in a tree (`attr.tree`, `GIT_ATTR_SOURCE`), or in the folder of
@@ -118,12 +120,20 @@ fn settings_in<R: Env + AllocGlobal>(
         trust_ctime: switch_or(alloc, config, "core.trustctime", true)?,
         check_stat_minimal: is_minimal(config),
         quote_path: switch_or(alloc, config, "core.quotepath", true)?,
-        auto_line_ends: switch_or_word(alloc, config, "core.autocrlf", Some(b"input"))?.unwrap_or(
-            false,
-        ),
+        conversions: conversions(alloc, config)?,
         ignore_case: switch_or(alloc, config, "core.ignorecase", false)?,
         has_other_attributes: has_other_attributes(rt, config)?,
         counts_left_out: counts_left_out(alloc, config)?,
+    })
+}
+
+// Returns the conversions of files that a configuration asks for.
+fn conversions(alloc: Global, config: &Config) -> Result<Configured, RepositoryError> {
+    Ok(Configured {
+        auto_line_ends: switch_or_word(alloc, config, "core.autocrlf", Some(b"input"))?.unwrap_or(
+            false,
+        ),
+        has_lfs: is_lfs(config),
     })
 }
 

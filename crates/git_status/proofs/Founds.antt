@@ -3,7 +3,7 @@ use Rattle.std.proofs.Common.{◌≡◌, ◌≢◌, ◌<◌, ◌^◌, ◌==◌, 
 use Rattle.std.specs.Result.{IsErrAnd}
 use Rattle.std.proofs.lemmas.Bool.{false≢true}
 use Rattle.git_attributes.specs.Files.{File, Said, attributes_of}
-use Rattle.git_attributes.specs.declared.line_ends.LineEnds.{LineEnds}
+use Rattle.git_attributes.specs.declared.clean.CleanFilter.{CleanFilter}
 use Rattle.git_attributes.specs.Views.{attributes_view}
 use Rattle.git_index.specs.File.{IsFileOf}
 use Rattle.git_index.specs.Refusals.{EndsWithChecksum}
@@ -53,7 +53,7 @@ attributes_early kind bytes (attributes.Object path fault) = inr (inr (path, fau
 module _ {T U : Type 0} where
   -- the changes were found, if they are wanted
   pub found_run : (wanted : Bool) (may_find : MayFind) (said : Said) (query : Query T U) (may : MayReturn U) (index : State) (s : Settings) (beside : Beside) (visits : List (Visit T U)) (answer : Result Outcome Error) (old : Option (List ℕ)) (found : Found) (new : Option (List ℕ))
-      → may_find (index_of index) beside → IsComputed query may index s answer visits → IsCommandEnd s.lines beside visits answer old (Ok found.report) new → (wanted ≡ true → IsFoundIn said visits found) → IsFoundRun wanted may_find said query may index s old (Ok found) new
+      → may_find (index_of index) beside → IsComputed query may index s answer visits → IsCommandEnd s.lines beside visits answer old (Ok found.report) new → (wanted ≡ true → IsFoundIn (said, s.conversions) visits found) → IsFoundRun wanted may_find said query may index s old (Ok found) new
   found_run wanted may_find said query may index s beside visits answer old found new is computed ended kept = (record { beside = beside; found = is; visits = visits; answer = answer; computed = computed; ended = ended }, kept)
 
   -- the counts of skipped entries have a sum that fits
@@ -78,11 +78,11 @@ module _ {T U : Type 0} where
   -- the changes that were found are of entries of the index
   pub found_inside : (may_find : MayFind) (said : Said) (query : Query T U) (may : MayReturn U) (index : State) (s : Settings) (old : Option (List ℕ)) (found : Found) (new : Option (List ℕ)) → IsFoundRun true may_find said query may index s old (Ok found) new → AreInside found.changes.items (index_of index)
   found_inside may_find said query may index s old found new run =
-      subst (λ changes. AreInside changes (index_of index)) (sym (run.1 refl).0) (kept_inside said query index run.0.answer run.0.visits run.0.computed.met)
+      subst (λ changes. AreInside changes (index_of index)) (sym (run.1 refl).0) (kept_inside (said, s.conversions) query index run.0.answer run.0.visits run.0.computed.met)
 
   -- the index of a file with a right checksum, whose line ends are converted, and the changes that its status asks for
-  pub index_found : (wanted : Bool) (a : Asking T U) (bytes : List ℕ) (index : State) (files : List File) (filter : LineEnds) (old : Option (List ℕ)) (result : Result Found Failure) (new : Option (List ℕ))
-      → EndsWithChecksum a.settings.kind bytes → a.are_files index files → attributes_view filter.attributes.now ≡ attributes_of files → filter.auto ≡ a.settings.auto_line_ends → filter.index.now ≡ index → filter.kind ≡ a.settings.kind
+  pub index_found : (wanted : Bool) (a : Asking T U) (bytes : List ℕ) (index : State) (files : List File) (filter : CleanFilter) (old : Option (List ℕ)) (result : Result Found Failure) (new : Option (List ℕ))
+      → EndsWithChecksum a.settings.kind bytes → a.are_files index files → attributes_view filter.attributes.now ≡ attributes_of files → filter.configured ≡ a.settings.conversions → filter.index.now ≡ index → filter.kind ≡ a.settings.kind
       → IsFoundRun wanted a.may_find (attributes_view filter.attributes.now) (a.query filter (settings a.settings.options index)) a.may_return index a.settings old result new → IsIndexFound wanted a bytes index old result new
   unfolding IsIndexFound
   index_found wanted a bytes index files filter old result new checked found attributes auto entries kind run =

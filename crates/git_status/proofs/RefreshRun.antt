@@ -29,11 +29,11 @@ module _ {U : Type 0} (a : Asking (Unit {0}) U) (bytes : List ℕ) where
         → RunHidesNothing a bytes old new refreshed r whole extensions made q
     hides_nothing q modelled sizes met later later_sizes selects early =
         let index = made.run.0.index in
-        let said = attributes_of made.run.0.converting.files in
+        let asks = (attributes_of made.run.0.converting.files, a.settings.conversions) in
         let visits = made.run.1.visits in
         let begins = subst (λ (vs : List (Visit (Unit {0}) U)). IsBeginning (map finding_of vs) (records_of q (start_of q index) (considered_entries q index))) (sym met.grew) (met.beginning modelled) in
-        refresh_law said q later visits (index_of index) sizes later_sizes selects (index.valid, begins)
-        (λ left. early (made.whole ∙ not_whole (list_any (is_left_out said) visits) (skipped_of r.outcome == 0) r.outcome.interrupted left))
+        refresh_law asks q later visits (index_of index) sizes later_sizes selects (index.valid, begins)
+        (λ left. early (made.whole ∙ not_whole (list_any (is_left_out asks) visits) (skipped_of r.outcome == 0) r.outcome.interrupted left))
 
     run_law : IsBySizes a bytes → RunLaw a bytes old new refreshed r whole extensions made
     run_law sizes =

@@ -2,7 +2,7 @@
 use Rattle.std.specs.Prelude.{◌≡◌, ℕ, Bool, List, [], Option, Some, None, IsTrue, slice_get}
 use Rattle.std.specs.List.{flat_map}
 use Rattle.std.specs.Io.KnownBytes.{Appends}
-use Rattle.git_attributes.specs.declared.line_ends.LineEnds.{LineEnds}
+use Rattle.git_attributes.specs.declared.clean.CleanFilter.{CleanFilter}
 use Rattle.status_call.specs.Inputs.{settings}
 use Rattle.status_call.specs.Query.{Query}
 use Rattle.status_call.specs.Records.{records_of}
@@ -50,5 +50,5 @@ module _ {T U : Type 0} where
   -- Over a modelled worktree a command that ended with exit status 0 or 1 printed so, unless it is quiet.
   abbrev pub LinesLaw : Asking T U → List ℕ → Type 0
   LinesLaw a bytes =
-      ((filter : LineEnds) (settings : StatusSettings) → IsTrue (a.query filter settings).modelled) → (style : LineStyle) → a.settings.lines ≡ Some style
+      ((filter : CleanFilter) (settings : StatusSettings) → IsTrue (a.query filter settings).modelled) → (style : LineStyle) → a.settings.lines ≡ Some style
       → (dirty : Bool) (old new : Option (List ℕ)) → IsExit a bytes dirty old new → PrintsDifferences a style bytes old new

@@ -8,7 +8,7 @@ use Rattle.status_call.specs.Query.{Query}
 use Rattle.status_call.specs.Visits.{Visit}
 use Rattle.status_index.specs.declared.state.State.{State}
 use Rattle.git_status.specs.Besides.{MayFind}
-use Rattle.git_status.specs.Kept.{is_whole, kept_changes}
+use Rattle.git_status.specs.Kept.{Asks, is_whole, kept_changes}
 use Rattle.git_index.specs.Refusals.{EndsWithChecksum}
 use Rattle.git_status.specs.Runs.{Asking, Converting, IsEarly, IsStatusRun}
 use Rattle.git_status.specs.declared.asked.Settings.{Settings}
@@ -19,13 +19,13 @@ use Rattle.git_status.specs.declared.found.Found.{Found}
 
 module _ {T U : Type 0} where
   -- The changes that a refresh makes by these records, and whether it is whole.
-  abbrev pub IsFoundIn : Said → List (Visit T U) → Found → Type 0
-  IsFoundIn said visits found = (found.changes.items ≡ kept_changes said visits) × (found.is_whole ≡ is_whole said visits found.report.outcome)
+  abbrev pub IsFoundIn : Asks → List (Visit T U) → Found → Type 0
+  IsFoundIn asks visits found = (found.changes.items ≡ kept_changes asks visits) × (found.is_whole ≡ is_whole asks visits found.report.outcome)
 
   -- A status of this index was printed, with the changes that a refresh makes if they are wanted; or it failed; or memory ran out for the
   -- changes after it was printed.
   abbrev pub IsFoundRun : Bool → MayFind → Said → Query T U → MayReturn U → State → Settings → Option (List ℕ) → Result Found Failure → Option (List ℕ) → Type 0
-  IsFoundRun wanted may_find said query may index s old (Ok found) new = (run : IsStatusRun may_find query may index s old (Ok found.report) new) × (wanted ≡ true → IsFoundIn said run.visits found)
+  IsFoundRun wanted may_find said query may index s old (Ok found) new = (run : IsStatusRun may_find query may index s old (Ok found.report) new) × (wanted ≡ true → IsFoundIn (said, s.conversions) run.visits found)
   IsFoundRun wanted may_find said query may index s old (Err f) new = IsStatusRun may_find query may index s old (Err f) new ⊎ ((r : Report) × IsStatusRun may_find query may index s old (Ok r) new × (f ≡ Memory) × (wanted ≡ true))
 
   -- The same for the index of a file with a right checksum, with line ends converted; or the command ended before it.

@@ -2,7 +2,8 @@
 use Rattle.std.specs.Prelude.{◌≡◌, not, ◌&&◌, ◌==◌, Bool, true, false, List, filter}
 use Rattle.std.specs.List.{list_any}
 use Rattle.git_attributes.specs.Files.{Said, states_of}
-use Rattle.git_attributes.specs.Normalization.{is_unconverted}
+use Rattle.git_attributes.specs.Conversions.{is_unconverted}
+use Rattle.git_attributes.specs.declared.conversion.Configured.{Configured}
 use Rattle.status_call.specs.IndexChanges.{changes_of}
 use Rattle.status_call.specs.Counts.{skipped_of}
 use Rattle.status_call.specs.Visits.{Visit}
@@ -20,10 +21,14 @@ module _ {T U : Type 0} where
   is_compared (Change (Modification x c zero)) = true
   is_compared _ = false
 
-module _ {T U : Type 0} (said : Said) where
+-- What attribute files say, and what the configuration says of conversions.
+abbrev pub Asks : Type 0
+Asks = Said × Configured
+
+module _ {T U : Type 0} (asks : Asks) where
   -- A content was compared without a conversion that is asked for: git may compare it otherwise.
   abbrev pub is_left_out : Visit T U → Bool
-  is_left_out v = is_compared v.status && is_unconverted (states_of said v.path)
+  is_left_out v = is_compared v.status && is_unconverted (states_of asks.0 v.path) asks.1
 
   -- The changes that a refresh makes: those that the other records ask for.
   abbrev pub kept_changes : List (Visit T U) → List ApplyChange

@@ -2,8 +2,8 @@
 use Rattle.std.specs.Prelude.{◌≡◌, ◌≢◌, ℕ, ◌<◌, ◌%◌, ◌^◌, Bool, List, [], All, AllPairs, map, Option, Some, None, option_map, slice_get, Result, Ok, Err, IfOk, IsTrue, IsFalse, if◌then◌else◌}
 use Rattle.std.specs.List.{list_any}
 use Rattle.std.specs.declared.cmp.Ordering.TheVariants.{Greater}
-use Rattle.git_attributes.specs.Files.{Said, attributes_of}
-use Rattle.git_attributes.specs.declared.line_ends.LineEnds.{LineEnds}
+use Rattle.git_attributes.specs.Files.{attributes_of}
+use Rattle.git_attributes.specs.declared.clean.CleanFilter.{CleanFilter}
 use Rattle.status_index.specs.BlobId.{blob_id, id_kind, is_empty_blob}
 use Rattle.status_index.specs.Content.{Content}
 use Rattle.status_index.specs.Entries.{IndexEntry, IsIndex}
@@ -22,7 +22,7 @@ use Rattle.status_call.specs.StatusTheorem.{IsBeginning}
 use Rattle.status_call.specs.Visits.{Visit, finding_of}
 use Rattle.status_call.specs.declared.index_as_worktree.inputs.Settings.{Settings as StatusSettings}
 use Rattle.status_call.specs.declared.index_as_worktree.types.EntryStatus.{EntryStatus}
-use Rattle.git_status.specs.Kept.{is_left_out, kept_changes}
+use Rattle.git_status.specs.Kept.{Asks, is_left_out, kept_changes}
 use Rattle.git_status.specs.Lines.{letters}
 use Rattle.git_status.specs.Refreshes.{IsFileRefreshed}
 use Rattle.git_status.specs.Runs.{Asking, SeenBy, seen_query}
@@ -87,14 +87,14 @@ module _ {U : Type 0} where
       → SeesSame q later e e
       → shown_letters (status_of later e) ≡ Ok (letters status)
 
-module _ {T U : Type 0} (said : Said) where
+module _ {T U : Type 0} (asks : Asks) where
   -- The entries of an index after a refresh by these records.
   abbrev pub refreshed_entries : List (Visit T U) → List IndexEntry → List IndexEntry
-  refreshed_entries visits es = applied (kept_changes said visits) es
+  refreshed_entries visits es = applied (kept_changes asks visits) es
 
   -- The entry of a record after the refresh: with the change that the record asks for, unless the record is left out.
   abbrev pub refreshed_entry : Visit T U → IndexEntry → IndexEntry
-  refreshed_entry v e = if is_left_out said v then e else updated_entry (change_of v.entry_index v.status) e
+  refreshed_entry v e = if is_left_out asks v then e else updated_entry (change_of v.entry_index v.status) e
 
   -- A refresh changes each entry that has a record by that record alone, and no other entry.
   pub record ChangesOwn (visits : List (Visit T U)) (es : List IndexEntry) : Type 0 where
@@ -105,17 +105,17 @@ module _ {T U : Type 0} (said : Said) where
   abbrev pub OwnLaw : List (Visit T U) → List IndexEntry → Type 0
   OwnLaw visits es = AllPairs (λ a b. a.entry_index < b.entry_index) visits → ChangesOwn visits es
 
-module _ {U : Type 0} (said : Said) (q later : Query (Unit {0}) U) (visits : List (Visit (Unit {0}) U)) (es : List IndexEntry) where
+module _ {U : Type 0} (asks : Asks) (q later : Query (Unit {0}) U) (visits : List (Visit (Unit {0}) U)) (es : List IndexEntry) where
   -- A later query sees the same of the entry at a record's position, in the refreshed index as in the old one.
   pub record IsSeenAgain (v : Visit (Unit {0}) U) (old new : IndexEntry) : Type 0 where
     pub old_entry : slice_get es v.entry_index ≡ Some old
-    pub new_entry : slice_get (refreshed_entries said visits es) v.entry_index ≡ Some new
+    pub new_entry : slice_get (refreshed_entries asks visits es) v.entry_index ≡ Some new
     pub empty : ReadsEmptyNode q old
     pub same : SeesSame q later old new
 
   -- The result of an entry of the refreshed index by the later query.
   abbrev pub later_verdict : IndexEntry → Result (Option (EntryStatus (Unit {0}) U)) Error
-  later_verdict e = verdict later (considered later.prefix (refreshed_entries said visits es)) e
+  later_verdict e = verdict later (considered later.prefix (refreshed_entries asks visits es)) e
 
   -- The records are those of an index by the first query, or a beginning of them.
   abbrev pub AreRecords : Type 0
@@ -130,7 +130,7 @@ module _ {U : Type 0} (said : Said) (q later : Query (Unit {0}) U) (visits : Lis
   abbrev pub RefreshLaw : Type 0
   RefreshLaw =
       ComparesBySizes q → ComparesBySizes later → SelectsSame q later → AreRecords
-      → (IsTrue (list_any (is_left_out said) visits) → IsOfNoLaterTime q later)
+      → (IsTrue (list_any (is_left_out asks) visits) → IsOfNoLaterTime q later)
       → HidesNothing
 
 -- ---- a run of the command
@@ -138,11 +138,11 @@ module _ {U : Type 0} (said : Said) (q later : Query (Unit {0}) U) (visits : Lis
 module _ {U : Type 0} (a : Asking (Unit {0}) U) (bytes : List ℕ) where
   -- Each query of the command compares by sizes.
   abbrev pub IsBySizes : Type 0
-  IsBySizes = (filter : LineEnds) (settings : StatusSettings) → ComparesBySizes (a.query filter settings)
+  IsBySizes = (filter : CleanFilter) (settings : StatusSettings) → ComparesBySizes (a.query filter settings)
 
   -- Each query of the command is over a modelled worktree.
   abbrev pub IsModelled : Type 0
-  IsModelled = (filter : LineEnds) (settings : StatusSettings) → IsTrue (a.query filter settings).modelled
+  IsModelled = (filter : CleanFilter) (settings : StatusSettings) → IsTrue (a.query filter settings).modelled
 
   module _ (old new refreshed : Option (List ℕ)) (r : Report) (whole : Bool) (extensions : List ℕ) (made : IsFileRefreshed a bytes old r whole extensions refreshed new) where
     -- The query of the status that the refresh is of.
@@ -154,7 +154,7 @@ module _ {U : Type 0} (a : Asking (Unit {0}) U) (bytes : List ℕ) where
     abbrev pub RunHidesNothing : Query (Unit {0}) U → Type 0
     RunHidesNothing q =
         (later : Query (Unit {0}) U) → ComparesBySizes later → SelectsSame q later → (IsFalse whole → IsOfNoLaterTime q later)
-        → HidesNothing (attributes_of made.run.0.converting.files) q later made.run.1.visits (index_of made.run.0.index)
+        → HidesNothing (attributes_of made.run.0.converting.files, a.settings.conversions) q later made.run.1.visits (index_of made.run.0.index)
 
     -- Over a modelled worktree the records are those of the command's query, and over any those of a query of what was seen.
     pub record RunLaw : Type 0 where

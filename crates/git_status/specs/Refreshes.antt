@@ -36,8 +36,8 @@ module _ {T U : Type 0} where
   pub record IsFileRefreshed (a : Asking T U) (bytes : List ℕ) (old : Option (List ℕ)) (r : Report) (all : Bool) (extensions : List ℕ) (refreshed new : Option (List ℕ)) : Type 0 where
     pub run : IsFileRun a bytes old (Ok r) new
     pub kept : extensions ≡ run.0.extensions
-    pub whole : all ≡ is_whole (attributes_of run.0.converting.files) run.1.visits r.outcome
-    pub file : IsRefreshedFile a.settings.kind bytes run.0.version run.0.extensions (index_of run.0.index) (kept_changes (attributes_of run.0.converting.files) run.1.visits) refreshed
+    pub whole : all ≡ is_whole (attributes_of run.0.converting.files, a.settings.conversions) run.1.visits r.outcome
+    pub file : IsRefreshedFile a.settings.kind bytes run.0.version run.0.extensions (index_of run.0.index) (kept_changes (attributes_of run.0.converting.files, a.settings.conversions) run.1.visits) refreshed
 
   -- The refresh of an index file fails as its status does, or since memory ran out after the status was printed.
   abbrev pub IsUnrefreshed : Asking T U → List ℕ → Option (List ℕ) → Failure → Option (List ℕ) → Type 0

@@ -6,7 +6,7 @@ use Rattle.std.specs.Result.{IsErrAnd}
 use Rattle.std.specs.Io.KnownBytes.{Appends}
 use Rattle.git_attributes.specs.Files.{File, attributes_of}
 use Rattle.git_attributes.specs.Views.{attributes_view}
-use Rattle.git_attributes.specs.declared.line_ends.LineEnds.{LineEnds}
+use Rattle.git_attributes.specs.declared.clean.CleanFilter.{CleanFilter}
 use Rattle.git_index.specs.File.{IsFileOf}
 use Rattle.git_index.specs.Refusals.{EndsWithChecksum}
 use Rattle.git_index.specs.declared.fault.IndexFileError.TheVariants.{Checksum}
@@ -44,7 +44,7 @@ use Rattle.git_status.specs.declared.failure.Failure.TheVariants.{Attributes, He
 -- How a worktree is compared with an index after line ends are converted, which attribute files may be found for an index, what
 -- may be found next to its status, and the settings.
 pub record Asking (T U : Type 0) : Type 1 where
-  pub query : LineEnds → StatusSettings → Query T U
+  pub query : CleanFilter → StatusSettings → Query T U
   pub are_files : State → List File → Type 0
   pub may_find : MayFind
   -- Which results the worktree and the submodules may return.
@@ -55,9 +55,9 @@ pub record Asking (T U : Type 0) : Type 1 where
 pub record Converting {T U : Type 0} (a : Asking T U) (index : State) : Type 0 where
   pub files : List File
   pub found : a.are_files index files
-  pub filter : LineEnds
+  pub filter : CleanFilter
   pub attributes : attributes_view filter.attributes.now ≡ attributes_of files
-  pub auto : filter.auto ≡ a.settings.auto_line_ends
+  pub configured : filter.configured ≡ a.settings.conversions
   pub entries : filter.index.now ≡ index
   pub kind : filter.kind ≡ a.settings.kind
 
@@ -198,12 +198,12 @@ module _ {T U : Type 0} where
   IsClean a bytes = (read : ReadFile a bytes) × IsNothingBeside a read.index × NoneDiffers (a.query read.converting.filter (settings a.settings.options read.index)) read.index
 
   -- A status of an index that was read, by what was seen of each considered entry.
-  pub record SeenBy (a : Asking T U) (index : State) (filter : LineEnds) : Type 0 where
+  pub record SeenBy (a : Asking T U) (index : State) (filter : CleanFilter) : Type 0 where
     pub views : Views U
     pub allowed : AllAllowed (IsViewAllowed a.may_return a.settings.options.fscache) (considered_entries (a.query filter (settings a.settings.options index)) index) views
 
   -- The query of what was seen.
-  abbrev pub seen_query : (a : Asking T U) (index : State) (filter : LineEnds) → SeenBy a index filter → Query T U
+  abbrev pub seen_query : (a : Asking T U) (index : State) (filter : CleanFilter) → SeenBy a index filter → Query T U
   seen_query a index filter seen = as_seen (a.query filter (settings a.settings.options index)) seen.views
 
   -- An index was read next to whose status nothing was found, and of which no considered entry differs, by what was seen of each.
@@ -213,4 +213,4 @@ module _ {T U : Type 0} where
   -- Over a modelled worktree, a command that ended with exit status 0 means this.
   abbrev pub CleanLaw : Asking T U → List ℕ → Type 0
   CleanLaw a bytes =
-      ((filter : LineEnds) (settings : StatusSettings) → IsTrue (a.query filter settings).modelled) → (old new : Option (List ℕ)) → IsExit a bytes false old new → IsClean a bytes
+      ((filter : CleanFilter) (settings : StatusSettings) → IsTrue (a.query filter settings).modelled) → (old new : Option (List ℕ)) → IsExit a bytes false old new → IsClean a bytes

@@ -10,7 +10,7 @@ ghost use Rattle.git_status.specs.Runs.{Asking};
 use crate::beside::FindBeside;
 use crate::lines::LineStyle;
 use crate::status::Compared;
-use git_attributes::AttributeFiles;
+use git_attributes::{AttributeFiles, Configured};
 use status_base::worktree::{
     Find, Lister, MemoryObjects, NoLister, Pathspec, SubmoduleStatus, Worktree,
 };
@@ -27,8 +27,8 @@ pub struct Settings {
     pub timestamp: Moment,
     /// How entries are compared with the worktree, and by how many threads.
     pub options: Options,
-    /// Whether git decides by a file's bytes whether to convert its line ends (`core.autocrlf`), if its attributes don't.
-    pub auto_line_ends: bool,
+    /// What the repository's configuration says of conversions.
+    pub conversions: Configured,
     /// How lines are printed. With `None` no line is printed, and the first entry that differs ends the comparison of files.
     pub lines: Option<LineStyle>,
     /// Whether lines on standard error name the files with other contents that git converts, and the status doesn't.

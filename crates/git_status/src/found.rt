@@ -85,7 +85,12 @@ where
     {
         let alloc = rt.alloc();
         let index = &read.file.state;
-        let Settings { lines, notes, .. } = self.settings;
+        let Settings {
+            lines,
+            notes,
+            conversions,
+            ..
+        } = self.settings;
         let files = self.attribute_files(rt, index)?;
         let attributes = attributes_of(alloc, &files)?;
         let filter = filter_of(&attributes, index, &self.settings);
@@ -97,7 +102,7 @@ where
         let beside = beside?;
         let Computed { recorder, answer } = computed;
         let records = recorder.records.as_slice();
-        let unconverted = noted_paths(alloc, notes, attributes, records);
+        let unconverted = noted_paths(alloc, notes, attributes, conversions, records);
         let report = print_answer(alloc, lines, &beside, records, unconverted, answer, output)?;
         if !wanted {
             return Ok(Found {
@@ -106,7 +111,7 @@ where
                 is_whole: false,
             });
         }
-        let Kept { changes, are_all } = kept_changes(alloc, attributes, records)?;
+        let Kept { changes, are_all } = kept_changes(alloc, attributes, conversions, records)?;
         let is_whole = has_all(are_all, &report.outcome);
         Ok(Found {
             report,

@@ -15,7 +15,7 @@ ghost use Rattle.git_index.specs.WholeFile.{IsWholeFile};
 ghost use Rattle.git_index.specs.Writing.{file_bytes};
 
 use crate::notes::is_left_out;
-use git_attributes::Attributes;
+use git_attributes::{Attributes, Configured};
 use git_index::IndexFile;
 use status_call::index_as_worktree::{ApplyChange, Outcome, Record, apply_changes};
 use status_index::{Stat, State};
@@ -37,14 +37,15 @@ pub struct Kept {
 pub(crate) fn kept_changes<T: Drop, U: Drop>(
     alloc: Global,
     attributes: &Attributes<'_>,
+    configured: Configured,
     records: &[Record<'_, T, U>],
 ) -> Result<Kept, AllocError>
-    ensures { IfOk result (AreKept (attributes_view attributes.now) (map visit_of records.now)) }
+    ensures { IfOk result (AreKept (attributes_view attributes.now, configured) (map visit_of records.now)) }
 {
     let mut changes = Vec::new(alloc);
     let mut are_all = true;
     for record in records {
-        if is_left_out(alloc, attributes, record)? {
+        if is_left_out(alloc, attributes, configured, record)? {
             are_all = false;
         } else if let Some(change) = record.status.apply_change(record.entry_index) {
             changes.push(change)?;

@@ -1,8 +1,8 @@
 //! Laws that a user relies on. Each function's contract is a law of the definitions, and no function does anything.
 
 ghost use Rattle.std.specs.Prelude.{List, ℕ};
-ghost use Rattle.git_attributes.specs.Files.{Said};
-ghost use Rattle.git_attributes.specs.declared.line_ends.LineEnds.{LineEnds};
+ghost use Rattle.git_status.specs.Kept.{Asks};
+ghost use Rattle.git_attributes.specs.declared.clean.CleanFilter.{CleanFilter};
 ghost use Rattle.status_call.specs.Query.{Query};
 ghost use Rattle.status_call.specs.Visits.{Visit};
 ghost use Rattle.status_call.specs.declared.index_as_worktree.inputs.Settings.{Settings as StatusSettings};
@@ -17,7 +17,7 @@ use crate::asked::Question;
 /// Over a modelled worktree, exit status 0 means that nothing is staged and no node is untracked, as far as was found, and that
 /// no entry of the index differs from the worktree, of those that are compared.
 pub fn clean_means_no_difference<T: Drop, Q: Question>(asked: &Q)
-    ensures { (query : LineEnds → StatusSettings → Query T Q.Submodule) (settings : AskedSettings) (bytes : List ℕ)
+    ensures { (query : CleanFilter → StatusSettings → Query T Q.Submodule) (settings : AskedSettings) (bytes : List ℕ)
         → CleanLaw (record { query = query; are_files = (Q.asking asked.now).are_files; may_find = (Q.asking asked.now).may_find; may_return = (Q.asking asked.now).may_return; settings = settings }) bytes }
 {}
 
@@ -25,13 +25,13 @@ pub fn clean_means_no_difference<T: Drop, Q: Question>(asked: &Q)
 /// the entries that differ from the worktree, of those that are compared, and the untracked and ignored nodes that were found,
 /// unless the command is quiet.
 pub fn lines_are_of_all_differences<T: Drop, Q: Question>(asked: &Q)
-    ensures { (query : LineEnds → StatusSettings → Query T Q.Submodule) (settings : AskedSettings) (bytes : List ℕ)
+    ensures { (query : CleanFilter → StatusSettings → Query T Q.Submodule) (settings : AskedSettings) (bytes : List ℕ)
         → LinesLaw (record { query = query; are_files = (Q.asking asked.now).are_files; may_find = (Q.asking asked.now).may_find; may_return = (Q.asking asked.now).may_return; settings = settings }) bytes }
 {}
 
 /// A refresh changes each entry that has a record by that record alone, and no other entry.
 pub fn refresh_changes_own_entries<T: Drop, U: Drop>()
-    ensures { (said : Said) (visits : List (Visit T U)) (es : List IndexEntry) → OwnLaw said visits es }
+    ensures { (asks : Asks) (visits : List (Visit T U)) (es : List IndexEntry) → OwnLaw asks visits es }
 {}
 
 /// A refresh hides no difference: an entry that has a record shows the same letters after it. If the record's change is
@@ -39,12 +39,12 @@ pub fn refresh_changes_own_entries<T: Drop, U: Drop>()
 pub fn refresh_hides_nothing<U: Drop>()
     ensures kept { (q later : Query (Unit {0}) U) (e : IndexEntry) → KeptLaw q later e }
     ensures left_out { (q later : Query (Unit {0}) U) (e : IndexEntry) → LeftOutLaw q later e }
-    ensures index { (said : Said) (q later : Query (Unit {0}) U) (visits : List (Visit (Unit {0}) U)) (es : List IndexEntry) → RefreshLaw said q later visits es }
+    ensures index { (asks : Asks) (q later : Query (Unit {0}) U) (visits : List (Visit (Unit {0}) U)) (es : List IndexEntry) → RefreshLaw asks q later visits es }
 {}
 
 /// A refresh by the command hides no difference from a later status that compares by sizes too: over a modelled worktree,
 /// and over any, by what was seen of each entry.
 pub fn refreshes_hide_nothing<Q: Question>(asked: &Q)
-    ensures { (query : LineEnds → StatusSettings → Query (Unit {0}) Q.Submodule) (settings : AskedSettings) (bytes : List ℕ)
+    ensures { (query : CleanFilter → StatusSettings → Query (Unit {0}) Q.Submodule) (settings : AskedSettings) (bytes : List ℕ)
         → RefreshesLaw (record { query = query; are_files = (Q.asking asked.now).are_files; may_find = (Q.asking asked.now).may_find; may_return = (Q.asking asked.now).may_return; settings = settings }) bytes }
 {}

@@ -8,7 +8,7 @@ ghost use Rattle.git_status.specs.Kept.{is_compared, is_left_out};
 use crate::answer::Report;
 use crate::lines::push_quoted;
 use bstr::BString;
-use git_attributes::{Attributes, is_unconverted};
+use git_attributes::{Attributes, Configured, is_unconverted};
 use status_call::index_as_worktree::{Change, EntryStatus, Record};
 use status_index::Mode;
 use std::alloc::{AllocError, Global};
@@ -21,10 +21,11 @@ pub(crate) fn noted_paths<T: Drop, U: Drop>(
     alloc: Global,
     notes: bool,
     attributes: &Attributes<'_>,
+    configured: Configured,
     records: &[Record<'_, T, U>],
 ) -> Option<Vec<BString>> {
     if notes {
-        unconverted_paths(alloc, attributes, records)
+        unconverted_paths(alloc, attributes, configured, records)
     } else {
         None
     }
@@ -35,11 +36,12 @@ pub(crate) fn noted_paths<T: Drop, U: Drop>(
 fn unconverted_paths<T: Drop, U: Drop>(
     alloc: Global,
     attributes: &Attributes<'_>,
+    configured: Configured,
     records: &[Record<'_, T, U>],
 ) -> Option<Vec<BString>> {
     let mut paths = Vec::new(alloc);
     for record in records {
-        if is_modified_file(record) && is_left_out(alloc, attributes, record).ok()? {
+        if is_modified_file(record) && is_left_out(alloc, attributes, configured, record).ok()? {
             let path = record.relative_path.as_bytes();
             paths.push(BString::from_slice(alloc, path).ok()?).ok()?;
         }
@@ -64,15 +66,16 @@ fn is_compared<T, U>(status: &EntryStatus<T, U>) -> bool
 pub(crate) fn is_left_out<T: Drop, U: Drop>(
     alloc: Global,
     attributes: &Attributes<'_>,
+    configured: Configured,
     found: &Record<'_, T, U>,
 ) -> Result<bool, AllocError>
-    ensures { IfOk result (λ it. it ≡ is_left_out (attributes_view attributes.now) (visit_of found.now)) }
+    ensures { IfOk result (λ it. it ≡ is_left_out (attributes_view attributes.now, configured) (visit_of found.now)) }
 {
     if !is_compared(&found.status) {
         return Ok(false);
     }
     let states = attributes.states_of(alloc, found.relative_path.as_bytes())?;
-    Ok(is_unconverted(&states))
+    Ok(is_unconverted(&states, configured))
 }
 
 /// Returns whether a record's file has another content. Links aren't converted.
@@ -108,6 +111,6 @@ pub(crate) fn print_notes<E: io::Write>(
 fn note_of(alloc: Global, path: &[u8], quote_all: bool) -> Result<Vec<u8>, AllocError> {
     let mut line = Vec::from_slice(alloc, b"git dirty: note: ")?;
     push_quoted(&mut line, path, quote_all)?;
-    line.extend_from_slice(b" has a filter, an ident or an encoding, which isn't applied\n")?;
+    line.extend_from_slice(b" has a filter or an encoding, which isn't applied\n")?;
     Ok(line)
 }

@@ -14,7 +14,7 @@ use crate::beside::{Beside, FindBeside, find_beside};
 use crate::failure::Failure;
 use crate::read::ReadIndex;
 use crate::watcher::Watcher;
-use git_attributes::{AttributeFiles, Attributes, LineEnds};
+use git_attributes::{AttributeFiles, Attributes, CleanFilter};
 use git_index::ends_with_checksum;
 use status_base::worktree::{
     GuardedWorktree, MemoryObjects, NoLister, Pathspec, SubmoduleStatus, Worktree,
@@ -38,24 +38,24 @@ pub(crate) type Compared<'a, 'b, 'files, 'index, W, S, P> = Inputs<
     S,
     MemoryObjects,
     P,
-    LineEnds<'b, 'files, 'index>,
+    CleanFilter<'b, 'files, 'index>,
     NoLister,
 >;
 
-/// Returns the conversion of line ends by these attributes, for this index.
+/// Returns the conversions by these attributes, for this index.
 pub(crate) fn filter_of<'b, 'files, 'index>(
     attributes: &'b Attributes<'files>,
     index: &'index State,
     settings: &Settings,
-) -> LineEnds<'b, 'files, 'index>
+) -> CleanFilter<'b, 'files, 'index>
     ensures attributes { result.attributes.now ≡ attributes.now }
-    ensures auto { result.auto ≡ settings.now.auto_line_ends }
+    ensures configured { result.configured ≡ settings.now.conversions }
     ensures entries { result.index.now ≡ index.now }
     ensures kind { result.kind ≡ settings.now.kind }
 {
-    LineEnds {
+    CleanFilter {
         attributes,
-        auto: settings.auto_line_ends,
+        configured: settings.conversions,
         index,
         kind: settings.kind,
     }
@@ -140,7 +140,7 @@ pub(crate) fn compute<
 >(
     rt: &R,
     read: &'index ReadIndex<'_>,
-    filter: LineEnds<'b, 'files, 'index>,
+    filter: CleanFilter<'b, 'files, 'index>,
     asked: Asked<'a, W, S, P, A, B>,
 ) -> Option<Computed<'index, (), S::Output>>
 where
@@ -192,7 +192,7 @@ pub(crate) fn compute_both<
 >(
     rt: &R,
     read: &'index ReadIndex<'_>,
-    filter: LineEnds<'b, 'files, 'index>,
+    filter: CleanFilter<'b, 'files, 'index>,
     asked: Asked<'a, W, S, P, A, B>,
 ) -> (
     Result<Beside, Failure>,

@@ -11,7 +11,7 @@ use Rattle.git_status.proofs.kept.kept_changes.Goals.{then-branch, else-branch+i
 
 pub loop-record-preserved : goal.loop-record-preserved
 loop-record-preserved g c =
-    let said = attributes_view c.args.attributes.now in
+    let said = (attributes_view c.args.attributes.now, c.args.configured) in
     let records = c.args.records.now in
     let at = c.loop-record.record-index in
     let item = c.record-item.result in

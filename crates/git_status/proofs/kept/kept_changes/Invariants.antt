@@ -8,6 +8,6 @@ use Rattle.git_status.proofs.kept.kept_changes.Given as goal
 -- the changes of the records so far
 abbrev pub invariant-loop-record : goal.invariant-loop-record
 invariant-loop-record g l = record {
-  changes : l.changes.items ≡ kept_changes (attributes_view l.fn.attributes) (map visit_of (take l.record-index l.records));
-  all : l.are_all ≡ not (list_any (is_left_out (attributes_view l.fn.attributes)) (map visit_of (take l.record-index l.records)));
+  changes : l.changes.items ≡ kept_changes (attributes_view l.fn.attributes, l.fn.configured) (map visit_of (take l.record-index l.records));
+  all : l.are_all ≡ not (list_any (is_left_out (attributes_view l.fn.attributes, l.fn.configured)) (map visit_of (take l.record-index l.records)));
 }

@@ -19,7 +19,7 @@ returns-in_err-report g c =
     let computed = c.in-Some.computed in
     let failed = c.from_residual-in_err-report in
     index_found c.args.wanted _ c.args.read.now.bytes.now c.args.read.now.file.state (map file_view c.in_ok-files.files.items) filter.result _ failed.result _ (rw c.in-Some.is at c.compute_both-beside.ensures.checked) c.in_ok-files.ensures
-    (ap attributes_view made.attributes ∙ rw c.deref.ensures.value at c.in_ok-attributes.ensures) made.auto made.entries made.kind
+    (ap attributes_view made.attributes ∙ rw c.deref.ensures.value at c.in_ok-attributes.ensures) made.configured made.entries made.kind
     (unfound_run c.args.wanted _ (attributes_view filter.result.attributes.now) _ _ c.args.read.now.file.state c.args.self.settings (beside_view c.in_ok-beside.beside) (visits_of computed.recorder) computed.answer _ _ failed.result _ (rw c.in_ok-beside.was at c.compute_both-beside.ensures.found) (rw c.in-Some.is at c.compute_both-beside.ensures.computed)
     (rw (c.in_err-report.was, c.as_slice-records.ensures.value) at c.print_answer.ensures) failed.ensures.1)
 
@@ -30,7 +30,7 @@ returns-in_err-changes g c =
     let failed = c.from_residual-in_err-changes in
     let on : c.args.wanted ≡ true = search rules in
     index_found c.args.wanted _ c.args.read.now.bytes.now c.args.read.now.file.state (map file_view c.in_ok-files.files.items) filter.result _ failed.result _ (rw c.in-Some.is at c.compute_both-beside.ensures.checked) c.in_ok-files.ensures
-    (ap attributes_view made.attributes ∙ rw c.deref.ensures.value at c.in_ok-attributes.ensures) made.auto made.entries made.kind
+    (ap attributes_view made.attributes ∙ rw c.deref.ensures.value at c.in_ok-attributes.ensures) made.configured made.entries made.kind
     (late_run c.args.wanted _ (attributes_view filter.result.attributes.now) _ _ c.args.read.now.file.state c.args.self.settings (beside_view c.in_ok-beside.beside) (visits_of computed.recorder) computed.answer _ c.in_ok-report.report failed.result _ (rw c.in_ok-beside.was at c.compute_both-beside.ensures.found) (rw c.in-Some.is at c.compute_both-beside.ensures.computed)
     (rw (c.in_ok-report.was, c.as_slice-records.ensures.value) at c.print_answer.ensures) failed.ensures.1 on)
 
@@ -46,7 +46,7 @@ returns g c =
     let computed = c.in-Some.computed in
     let kept = rw c.as_slice-records.ensures.value at c.in_ok-changes.ensures in
     index_found c.args.wanted _ c.args.read.now.bytes.now c.args.read.now.file.state (map file_view c.in_ok-files.files.items) filter.result _ _ _ (rw c.in-Some.is at c.compute_both-beside.ensures.checked) c.in_ok-files.ensures
-    (ap attributes_view made.attributes ∙ rw c.deref.ensures.value at c.in_ok-attributes.ensures) made.auto made.entries made.kind
+    (ap attributes_view made.attributes ∙ rw c.deref.ensures.value at c.in_ok-attributes.ensures) made.configured made.entries made.kind
     (found_run c.args.wanted _ (attributes_view filter.result.attributes.now) _ _ c.args.read.now.file.state c.args.self.settings (beside_view c.in_ok-beside.beside) (visits_of computed.recorder) computed.answer _
     (record { report = c.in_ok-report.report; changes = c.in_ok-changes.field-0.changes; is_whole = c.has_all-is_whole.result }) _ (rw c.in_ok-beside.was at c.compute_both-beside.ensures.found) (rw c.in-Some.is at c.compute_both-beside.ensures.computed)
     (rw (c.in_ok-report.was, c.as_slice-records.ensures.value) at c.print_answer.ensures)
@@ -58,7 +58,7 @@ returns-then-not-wanted g c =
     let computed = c.in-Some.computed in
     let off : c.args.wanted ≡ false = search rules in
     index_found c.args.wanted _ c.args.read.now.bytes.now c.args.read.now.file.state (map file_view c.in_ok-files.files.items) filter.result _ _ _ (rw c.in-Some.is at c.compute_both-beside.ensures.checked) c.in_ok-files.ensures
-    (ap attributes_view made.attributes ∙ rw c.deref.ensures.value at c.in_ok-attributes.ensures) made.auto made.entries made.kind
+    (ap attributes_view made.attributes ∙ rw c.deref.ensures.value at c.in_ok-attributes.ensures) made.configured made.entries made.kind
     (found_run c.args.wanted _ (attributes_view filter.result.attributes.now) _ _ c.args.read.now.file.state c.args.self.settings (beside_view c.in_ok-beside.beside) (visits_of computed.recorder) computed.answer _
     (record { report = c.in_ok-report.report; changes = c.new.result; is_whole = false }) _ (rw c.in_ok-beside.was at c.compute_both-beside.ensures.found) (rw c.in-Some.is at c.compute_both-beside.ensures.computed)
     (rw (c.in_ok-report.was, c.as_slice-records.ensures.value) at c.print_answer.ensures)

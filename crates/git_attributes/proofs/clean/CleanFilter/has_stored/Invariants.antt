@@ -3,8 +3,8 @@ use Rattle.std.specs.List.{list_any}
 use Rattle.status_index.specs.BlobId.{blob_id, same_id}
 use Rattle.status_index.specs.Entries.{index_entries}
 use Rattle.status_index.specs.States.{backing_of, index_of}
-use Rattle.git_attributes.specs.LineEnds.{has_stored}
-use Rattle.git_attributes.proofs.line_ends.LineEnds.has_stored.Given as goal
+use Rattle.git_attributes.specs.Clean.{has_stored}
+use Rattle.git_attributes.proofs.clean.CleanFilter.has_stored.Given as goal
 
 abbrev pub invariant-entries : goal.invariant-entries
 invariant-entries l =

@@ -9,11 +9,14 @@ use Rattle.status_index.specs.States.{index_of}
 use Rattle.status_index.specs.Stretch.{is_at}
 use Rattle.status_index.specs.declared.fault.Fault.{Fault}
 use Rattle.status_index.specs.declared.id.HashKind.{HashKind}
-use Rattle.git_attributes.specs.declared.line_ends.LineEnds.{LineEnds}
+use Rattle.git_attributes.specs.declared.clean.CleanFilter.{CleanFilter}
 use Rattle.git_attributes.specs.declared.normalization.Normalization.{Normalization}
 use Rattle.git_attributes.specs.declared.normalization.Normalization.TheVariants.{Off, On, Auto}
+use Rattle.git_attributes.specs.declared.conversion.Steps.{Steps}
+use Rattle.git_attributes.specs.Conversions.{is_empty, steps_of}
 use Rattle.git_attributes.specs.Files.{states_of}
-use Rattle.git_attributes.specs.Normalization.{normalization_of}
+use Rattle.git_attributes.specs.Ident.{without_ids}
+use Rattle.git_attributes.specs.Lfs.{stored_by_lfs}
 use Rattle.git_attributes.specs.Text.{has_crlf, is_binary, normalized}
 use Rattle.git_attributes.specs.Views.{attributes_view}
 
@@ -27,22 +30,34 @@ is_kept Off is_stored bytes = true
 is_kept On is_stored bytes = false
 is_kept Auto is_stored bytes = is_binary bytes || is_stored
 
--- The bytes that are stored.
+-- The bytes that are stored, as far as that concerns line ends.
 abbrev pub stored : Normalization → Bool → List ℕ → List ℕ
 stored how is_stored bytes = if is_kept how is_stored bytes then bytes else normalized bytes
+
+abbrev pub if_ident : Bool → List ℕ → List ℕ
+if_ident ident bytes = if ident then without_ids bytes else bytes
+
+-- The bytes that are stored of those that a filter returns: with the line ends of the index's file if the bytes are stored so.
+abbrev pub finished : Steps → (List ℕ → Bool) → List ℕ → List ℕ
+finished steps is_stored bytes = if_ident steps.ident (stored steps.line_ends (is_stored (if_ident steps.ident bytes)) bytes)
+
+-- The bytes that git-lfs returns, or the file's.
+abbrev pub filtered : Bool → List ℕ → List ℕ
+filtered lfs bytes = if lfs then stored_by_lfs bytes else bytes
 
 abbrev pub read_as : List ℕ → Option Fault → Conversion
 read_as bytes None = other bytes
 read_as bytes (Some fault) = refused fault
 
--- A file's conversion, by the attributes of its path.
-abbrev pub conversion_by : Normalization → (List ℕ → Bool) → Content → Conversion
-conversion_by Off is_stored content = same
-conversion_by how is_stored content = read_as (stored how (is_stored content.bytes) content.bytes) content.fault
+-- A file's conversion.
+abbrev pub conversion_by : Steps → (List ℕ → Bool) → Content → Conversion
+conversion_by steps is_stored content =
+    if is_empty steps then same else read_as (finished steps is_stored (filtered steps.lfs content.bytes)) content.fault
 
-abbrev pub line_ends : LineEnds → Content → List ℕ → Conversion
-line_ends filter content path =
-    conversion_by (normalization_of (states_of (attributes_view filter.attributes.now) path) filter.auto)
+-- A file's conversion, by the attributes of its path and the configuration.
+abbrev pub cleaned : CleanFilter → Content → List ℕ → Conversion
+cleaned filter content path =
+    conversion_by (steps_of (states_of (attributes_view filter.attributes.now) path) filter.configured)
     (λ bytes. has_stored filter.kind (index_of filter.index.now) bytes path) content
 
 -- ---- git's own rule for `text=auto`
