@@ -1,3 +1,4 @@
 pub mod Elements
 pub mod Lists
 pub mod Names
+pub mod Words

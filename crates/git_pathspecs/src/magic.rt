@@ -1,6 +1,9 @@
 //! The magic words of a pathspec, before its text: `:(top,icase)`, `:!`.
 
-use git_patterns::text::first_at;
+ghost use Rattle.std.specs.Prelude.{◌≡◌};
+ghost use Rattle.git_pathspecs.specs.Words.{is_reserved, listed, magic_of, no_magic, result_map, signs_of, with_word, with_words, words_of};
+
+use git_patterns::text::{first_at, is_word};
 
 /// The magic words of an element of a pathspec.
 #[derive(Clone, Copy, Debug, Default, PartialEq, Eq)]
@@ -30,10 +33,12 @@ pub enum MagicFault {
 ///
 /// # Errors
 /// A word isn't known or isn't supported, or a list of words has no end.
-pub fn magic_of(word: &[u8]) -> Result<(Magic, &[u8]), MagicFault> {
+pub fn magic_of(word: &[u8]) -> Result<(Magic, &[u8]), MagicFault>
+    ensures { result_map (λ x. (x.0, x.1.now)) result ≡ magic_of word.now }
+{
     match word {
-        [b':', b'(', rest @ ..] => listed(rest),
-        [b':', rest @ ..] => signs_of(rest),
+        [b':', b'(', words @ ..] => listed(words),
+        [b':', signs @ ..] => signs_of(signs),
         _ => Ok((Magic::default(), word)),
     }
 }
@@ -42,74 +47,93 @@ pub fn magic_of(word: &[u8]) -> Result<(Magic, &[u8]), MagicFault> {
 ///
 /// # Errors
 /// A sign isn't known.
-fn signs_of(signs: &[u8]) -> Result<(Magic, &[u8]), MagicFault> {
+fn signs_of(signs: &[u8]) -> Result<(Magic, &[u8]), MagicFault>
+    ensures { result_map (λ x. (x.0, x.1.now)) result ≡ signs_of no_magic signs.now }
+{
     let mut magic = Magic::default();
-    for (at, sign) in signs.iter().enumerate() {
-        match sign {
-            b':' => return Ok((magic, &signs[at + 1..])),
+    let mut rest = signs;
+    'signs: while let [sign, after @ ..] = rest {
+        match *sign {
             b'/' => magic.top = true,
             b'!' | b'^' => magic.excludes = true,
-            // Git keeps these for other magic.
-            b'"'
-            | b'#'
-            | b'%'
-            | b'&'
-            | b'\''
-            | b','
-            | b'-'
-            | b';'
-            | b'<'
-            | b'='
-            | b'>'
-            | b'@'
-            | b'_'
-            | b'`'
-            | b'~' => return Err(MagicFault::Unknown),
-            _ => return Ok((magic, &signs[at..])),
+            b':' => return Ok((magic, after)),
+            other if is_reserved(other) => return Err(MagicFault::Unknown),
+            _ => return Ok((magic, rest)),
         }
+        rest = after;
     }
-    Ok((magic, &[]))
+    Ok((magic, rest))
+}
+
+/// Returns whether git keeps a sign for other magic.
+fn is_reserved(sign: u8) -> bool
+    ensures { result ≡ is_reserved sign }
+{
+    b"\"#%&',-;<=>@_`~".iter().any(|it| *it == sign)
 }
 
 /// Returns the magic of a list of words, and the text after its `)`.
 ///
 /// # Errors
 /// A word isn't known or isn't supported, or there is no `)`.
-fn listed(words: &[u8]) -> Result<(Magic, &[u8]), MagicFault> {
+fn listed(words: &[u8]) -> Result<(Magic, &[u8]), MagicFault>
+    ensures { result_map (λ x. (x.0, x.1.now)) result ≡ listed words.now }
+{
     let Some(end) = first_at(b')', words) else {
         return Err(MagicFault::Unclosed);
     };
-    let mut magic = Magic::default();
-    for word in words[..end].split(|byte| *byte == b',') {
-        magic = with_word(magic, word)?;
-    }
+    let magic = magic_of_words(&words[..end])?;
     Ok((magic, &words[end + 1..]))
+}
+
+/// Returns the magic of words with commas between them.
+///
+/// # Errors
+/// A word isn't known or isn't supported.
+fn magic_of_words(words: &[u8]) -> Result<Magic, MagicFault>
+    ensures { result ≡ with_words no_magic (words_of words.now) }
+{
+    let mut magic = Magic::default();
+    let mut rest = words;
+    'words: while let Some(at) = first_at(b',', rest) {
+        magic = with_word(magic, &rest[..at])?;
+        rest = &rest[at + 1..];
+    }
+    with_word(magic, rest)
 }
 
 /// Returns the magic with a word more. Nothing between two commas is no word.
 ///
 /// # Errors
 /// The word isn't known or isn't supported.
-fn with_word(magic: Magic, word: &[u8]) -> Result<Magic, MagicFault> {
-    match word {
-        b"" => Ok(magic),
-        b"top" => Ok(Magic { top: true, ..magic }),
-        b"exclude" => Ok(Magic {
+fn with_word(magic: Magic, word: &[u8]) -> Result<Magic, MagicFault>
+    ensures { result ≡ with_word magic word.now }
+{
+    if word.is_empty() {
+        Ok(magic)
+    } else if is_word(word, b"top") {
+        Ok(Magic { top: true, ..magic })
+    } else if is_word(word, b"exclude") {
+        Ok(Magic {
             excludes: true,
             ..magic
-        }),
-        b"glob" => Ok(Magic {
+        })
+    } else if is_word(word, b"glob") {
+        Ok(Magic {
             glob: true,
             ..magic
-        }),
-        b"literal" => Ok(Magic {
+        })
+    } else if is_word(word, b"literal") {
+        Ok(Magic {
             literal: true,
             ..magic
-        }),
-        b"icase" => Ok(Magic {
+        })
+    } else if is_word(word, b"icase") {
+        Ok(Magic {
             icase: true,
             ..magic
-        }),
-        _ => Err(MagicFault::Unknown),
+        })
+    } else {
+        Err(MagicFault::Unknown)
     }
 }
