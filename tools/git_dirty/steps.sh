@@ -48,6 +48,11 @@ conflict() {
   for stage in "${@:2}"; do printf '%s %s %s\t%s\0' "${mode:-100644}" "$id" "$stage" "$1"; done | git update-index -z --index-info
 }
 
+# Prints the pointer that git-lfs stores of a file.
+pointer() {
+  printf 'version https://git-lfs.github.com/spec/v1\noid sha256:%s\nsize %s\n' "$(sha256sum <"$1" | cut -c1-64)" "$(stat -c %s "$1")"
+}
+
 commit() { git "$@" commit -q --allow-empty -m one; }
 
 # Makes repositories with a commit.
