@@ -3,7 +3,7 @@
 use crate::refused::{PathRefusal, Refused};
 use git_pathspecs::{Element, Magic, MagicFault, magic_of};
 use git_patterns::{MOST_PIECES, literal_len};
-use git_repository::{Repository, is_set};
+use git_repository::{Repository, is_folder_path, is_set, push_name};
 use std::alloc::{AllocError, Global};
 use std::rt::Env;
 
@@ -238,23 +238,12 @@ fn text_from_top(
         path
     };
     for component in components.split("/") {
-        match component {
-            "" | "." => {}
-            ".." if text.is_empty() => return Err(refused()),
-            ".." => {
-                text = parent_of(alloc, text.as_str())?;
-                kept = kept.min(folder_len(text.as_str()));
-            }
-            name => {
-                if !text.is_empty() {
-                    text.push_str("/")?;
-                }
-                text.push_str(name)?;
-            }
+        if !push_name(alloc, &mut text, component)? {
+            return Err(refused());
         }
+        kept = kept.min(folder_len(text.as_str()));
     }
-    let is_folder = matches!(components.rsplit('/').next(), Some("" | "." | ".."));
-    if is_folder && !text.is_empty() {
+    if is_folder_path(components) && !text.is_empty() {
         text.push_str("/")?;
     }
     Ok((text, kept))
@@ -263,17 +252,6 @@ fn text_from_top(
 /// Returns the length of a folder's path with a slash at its end. That of the worktree's top is empty.
 fn folder_len(path: &str) -> usize {
     if path.is_empty() { 0 } else { path.len() + 1 }
-}
-
-/// Returns the path of the folder that has the node at a path. That of the worktree's top is empty.
-///
-/// # Errors
-/// Out of memory.
-fn parent_of(alloc: Global, path: &str) -> Result<String, AllocError> {
-    match path.rsplit_once("/") {
-        Some((parent, _)) => String::from_str(alloc, parent),
-        None => Ok(String::new(alloc)),
-    }
 }
 
 /// Returns the rest of an absolute path of the worktree, or `None` if it isn't one.

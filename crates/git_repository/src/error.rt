@@ -176,6 +176,16 @@ impl RepositoryError {
         matches!(self, RepositoryError::Unreadable { .. })
     }
 
+    /// Returns whether nothing is at a path.
+    pub(crate) fn is_not_found(&self) -> bool {
+        match self {
+            RepositoryError::Unreadable { why, .. } => {
+                *why == Unread::System(io::ErrorKind::NotFound)
+            }
+            _ => false,
+        }
+    }
+
     /// Returns whether a line of a configuration file can't be read.
     pub(crate) fn is_bad_config(&self) -> bool {
         matches!(self, RepositoryError::BadConfig { .. })

@@ -87,7 +87,7 @@ fn real_home_of<R: Files + Env + AllocGlobal>(
 fn canonical_or_new<R: Files + AllocGlobal>(rt: &R, path: &str) -> Result<String, RepositoryError> {
     match canonical(rt, path) {
         Ok(real) => Ok(real),
-        Err(error) if error.is_unreadable() => new_in_canonical(rt, path, error),
+        Err(error) if error.is_not_found() => new_in_canonical(rt, path, error),
         Err(error) => Err(error),
     }
 }
@@ -98,7 +98,7 @@ fn new_in_canonical<R: Files + AllocGlobal>(
     path: &str,
     error: RepositoryError,
 ) -> Result<String, RepositoryError> {
-    match path.trim_end_matches('/').rsplit_once('/') {
+    match path.rsplit_once('/') {
         Some((above, name)) if !name.is_empty() => {
             let above = if above.is_empty() { "/" } else { above };
             let real = canonical(rt, above)?;

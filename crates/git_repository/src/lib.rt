@@ -4,7 +4,7 @@
 //! on, with `format`, `switches` and `lfs`, from the files that `sources` names and `includes` adds, by the conditions that `folders` decides.
 //! `intended` is a worktree in which nested repositories count.
 //! `attribute_files` finds the attribute files: those of the worktree, and those that `outer_attributes` names. `ignore_files`
-//! reads ignore files, `user_files` finds the files of the user and `homes` the folders of users, and `nested` other repositories in a worktree. `submodules` compares the heads of submodules, which `heads` finds. `regular` opens files, and `files` reads small ones.
+//! reads ignore files, `user_files` finds the files of the user and `homes` the folders of users, and `nested` other repositories in a worktree. `submodules` compares the heads of submodules, which `heads` finds. `regular` opens files, `files` reads small ones, and `paths` has what a path's text says.
 //! `lock` replaces the index file, and `error` has the errors.
 #![tactic(auto)]
 
@@ -25,6 +25,7 @@ pub mod location;
 mod lock;
 mod nested;
 mod outer_attributes;
+pub mod paths;
 pub mod regular;
 pub mod settings;
 mod sources;
@@ -42,6 +43,7 @@ pub use intended::IntendedWorktree;
 pub use location::Repository;
 pub use lock::{replace_index, time_of_lock};
 pub use nested::is_repository;
+pub use paths::{is_folder_path, push_name};
 pub use regular::{RegularFile, Unread, read_regular};
 pub use settings::{OwnSettings, Settings, read_own, read_settings};
 pub use sources::{Source, is_set};

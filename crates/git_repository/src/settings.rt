@@ -1,7 +1,7 @@
 //! A repository's settings, from git's configuration.
 
 use crate::error::RepositoryError;
-use crate::files::{joined, path_of, variable};
+use crate::files::{joined, text_of, variable};
 use crate::folders::Folders;
 use crate::format::{Format, read_format};
 use crate::includes::with_includes;
@@ -183,7 +183,7 @@ fn read_place(
 
 // Returns the worktree that a variable names.
 fn worktree_of(alloc: Global, variable: &Variable) -> Result<String, RepositoryError> {
-    let path = path_of(alloc, variable.value().unwrap_or(b""))?;
+    let path = String::from_str(alloc, text_of(alloc, variable.value().unwrap_or(b""))?)?;
     if path.is_empty() {
         return Err(RepositoryError::BadValue {
             name: "core.worktree",

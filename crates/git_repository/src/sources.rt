@@ -2,6 +2,7 @@
 
 use crate::error::RepositoryError;
 use crate::files::{bad_environment, configuration_folder, joined, read_if_there, variable};
+use crate::paths::folded;
 use crate::regular::{SMALL_LIMIT, Unread};
 use git_config::{Config, ConfigError, append_parameters, bool_of, number_of, read_config};
 use std::alloc::{AllocError, Global};
@@ -71,14 +72,19 @@ pub fn read_outer<R: Files + Env + AllocGlobal>(
     Ok(sources)
 }
 
-// Returns the path of the system's configuration file. None if the environment leaves it out.
+// Returns the path of the system's configuration file. None if the environment leaves it out. As in git, `..` in the variable takes
+// the name before it away, also that of a link.
 fn system_file<R: Env + AllocGlobal>(rt: &R, top: &str) -> Result<Option<String>, RepositoryError> {
     if is_set(rt, "GIT_CONFIG_NOSYSTEM")? {
         return Ok(None);
     }
+    let alloc = rt.alloc();
     match variable(rt, "GIT_CONFIG_SYSTEM")? {
-        Some(path) => Ok(Some(from_top(rt.alloc(), top, path)?)),
-        None => Ok(Some(String::from_str(rt.alloc(), "/etc/gitconfig")?)),
+        Some(path) => {
+            let path = folded(alloc, path.as_str())?.unwrap_or(path);
+            Ok(Some(from_top(alloc, top, path)?))
+        }
+        None => Ok(Some(String::from_str(alloc, "/etc/gitconfig")?)),
     }
 }
 
@@ -143,7 +149,7 @@ fn append_user<R: Files + Env + AllocGlobal>(
     Ok(())
 }
 
-// Appends the configuration file in a folder of the user.
+// Appends the configuration file in a folder of the user. As in git, an empty name of a folder is that of the root.
 fn append_below<R: Files + AllocGlobal>(
     rt: &R,
     top: &str,
@@ -151,9 +157,8 @@ fn append_below<R: Files + AllocGlobal>(
     name: &str,
     sources: &mut Vec<Source>,
 ) -> Result<(), RepositoryError> {
-    let folder = joined(rt.alloc(), top, folder)?;
-    let path = joined(rt.alloc(), folder.as_str(), name)?;
-    append_user_file(rt, path, sources)
+    let path = format!(in rt.alloc(); "{folder}/{name}")?;
+    append_user_file(rt, joined(rt.alloc(), top, path.as_str())?, sources)
 }
 
 /// Returns the variables that `GIT_CONFIG_COUNT`, `GIT_CONFIG_KEY_0`, `GIT_CONFIG_VALUE_0` and so on state, and then those
@@ -190,6 +195,9 @@ fn counted<R: Env + AllocGlobal>(rt: &R) -> Result<i32, RepositoryError> {
     let Some(text) = variable(rt, name)? else {
         return Ok(0);
     };
+    if text.is_empty() {
+        return Ok(0);
+    }
     match number_of(text.as_bytes()) {
         Some(count) if count >= 0 && count <= ENVIRONMENT_LIMIT => Ok(count),
         _ => Err(bad_environment(rt.alloc(), name)),

@@ -1,7 +1,7 @@
 //! The files of the user that the configuration names, such as that of `core.attributesFile`.
 
 use crate::error::RepositoryError;
-use crate::files::{configuration_folder, joined, path_of, variable};
+use crate::files::{configuration_folder, joined, text_of, variable};
 use crate::homes::expanded;
 use crate::location::Repository;
 use git_config::Config;
@@ -75,10 +75,10 @@ fn named_file<R: Files + Env + AllocGlobal>(
     let Some(value) = value else {
         return Err(bad_file(file, String::new(rt.alloc())));
     };
-    let path = path_of(rt.alloc(), value)?;
-    match expanded(rt, path.as_str())? {
+    let path = text_of(rt.alloc(), value)?;
+    match expanded(rt, path)? {
         Some(path) => Ok(path),
-        None => Err(bad_file(file, path)),
+        None => Err(bad_file(file, String::from_str(rt.alloc(), path)?)),
     }
 }
 
