@@ -1,12 +1,30 @@
--- The conditions of `includeIf`: which texts their patterns match.
-use Rattle.std.specs.Prelude.{ℕ, ◌++◌, ◌==◌, ◌&&◌, ◌||◌, not, nat_le, Bool, true, false, List, [], ◌∷◌, length, take, drop, map, codes, Option, Some, None, if◌then◌else◌}
+-- The conditions of `includeIf`, and which texts their patterns match.
+use Rattle.std.specs.Prelude.{ℕ, ◌++◌, ◌==◌, ◌&&◌, ◌||◌, not, nat_le, Bool, true, false, List, [], length, take, drop, map, codes, Option, Some, None, option_map, if◌then◌else◌}
 use Rattle.std.specs.List.{list_any}
+use Rattle.std.specs.Option.{option_or}
 use Rattle.std.specs.Str.{bytes_eq}
 use Rattle.std.specs.Char.{to_ascii_lowercase}
 use Rattle.git_patterns.specs.Styles.{styled_parts_of}
 use Rattle.git_patterns.specs.Text.{begins_with, below, ends_in_slash}
 use Rattle.git_patterns.specs.Wildmatch.{Part, is_match}
 use Rattle.git_patterns.specs.declared.wildcards.Style.{Style}
+
+-- What a condition asks of: the repository's folder, by a pattern whose letters match in either case or not, the branch of `HEAD`, or the
+-- URL of a remote.
+pub data Asks : Type 0 where
+  GitDir : Bool → List ℕ → Asks
+  OnBranch : List ℕ → Asks
+  HasRemoteUrl : List ℕ → Asks
+
+-- The condition that a text spells.
+abbrev pub condition_of : List ℕ → Option Asks
+condition_of text =
+    option_or (option_map (GitDir false) (below (codes "gitdir:") text))
+    (option_or (option_map (GitDir true) (below (codes "gitdir/i:") text))
+    (option_or (option_map OnBranch (below (codes "onbranch:") text))
+    (option_map HasRemoteUrl (below (codes "hasconfig:remote.*.url:") text))))
+
+-- ---- patterns
 
 -- A set or a backslash. The letters of a set, and one after a backslash, have a case in git, also if other letters have none.
 abbrev pub is_cased : ℕ → Bool

@@ -1,10 +1,11 @@
 //! The conditions of `includeIf`, and the patterns that they have.
 
-ghost use Rattle.std.specs.Prelude.{◌≡◌, IfOk, false};
+ghost use Rattle.std.specs.Prelude.{◌≡◌, IfOk, false, option_map};
 ghost use Rattle.std.specs.List.{list_any};
-ghost use Rattle.git_config.specs.Conditions.{compared, is_cased, with_all_below};
+ghost use Rattle.git_config.specs.Conditions.{compared, condition_of, is_cased, with_all_below};
+ghost use Rattle.git_config.specs.Views.{asks_view};
 
-use git_patterns::text::ends_in_slash;
+use git_patterns::text::{below, ends_in_slash};
 use git_patterns::{MOST_PIECES, Style, Wildcards};
 use std::alloc::{AllocError, Global};
 
@@ -27,22 +28,27 @@ pub enum Condition<'a> {
 }
 
 /// Returns the condition that a text spells. None if git doesn't know it: then it never holds.
-pub fn condition_of(text: &[u8]) -> Option<Condition<'_>> {
-    if let Some(pattern) = text.strip_prefix(b"gitdir:") {
-        Some(Condition::GitDir {
+pub fn condition_of(text: &[u8]) -> Option<Condition<'_>>
+    ensures { option_map asks_view result ≡ condition_of text.now }
+{
+    if let Some(pattern) = below(b"gitdir:", text) {
+        return Some(Condition::GitDir {
             pattern,
             folds_case: false,
-        })
-    } else if let Some(pattern) = text.strip_prefix(b"gitdir/i:") {
-        Some(Condition::GitDir {
+        });
+    }
+    if let Some(pattern) = below(b"gitdir/i:", text) {
+        return Some(Condition::GitDir {
             pattern,
             folds_case: true,
-        })
-    } else if let Some(pattern) = text.strip_prefix(b"onbranch:") {
-        Some(Condition::OnBranch(pattern))
-    } else {
-        text.strip_prefix(b"hasconfig:remote.*.url:")
-            .map(Condition::HasRemoteUrl)
+        });
+    }
+    if let Some(pattern) = below(b"onbranch:", text) {
+        return Some(Condition::OnBranch(pattern));
+    }
+    match below(b"hasconfig:remote.*.url:", text) {
+        Some(pattern) => Some(Condition::HasRemoteUrl(pattern)),
+        None => None,
     }
 }
 
