@@ -1,6 +1,7 @@
 pub mod Assignments
 pub mod Files
 pub mod FolderSteps
+pub mod Ident
 pub mod LineEnds
 pub mod Lines
 pub mod Normalization

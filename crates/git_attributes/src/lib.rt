@@ -4,13 +4,15 @@
 //! `attributes` has the states that `files` give to a path's attributes: it reads their lines (`line`), which have a
 //! pattern or a macro, and assignments (`assignment`), between blanks or in quotes (`words`). The patterns are those of the
 //! crate `git_patterns`. `worktree_files` finds the attribute files within a worktree, and `laws` has the law of these files.
-//! `staged_files` reads those that are only in the index, and `fault` is why one isn't read.
+//! `staged_files` reads those that are only in the index, and `fault` is why one isn't read. `ident` is what git stores of a
+//! file with that attribute.
 #![tactic(auto)]
 
 pub mod assignment;
 pub mod attributes;
 pub mod fault;
 pub mod files;
+mod ident;
 pub mod laws;
 mod line;
 pub mod line_ends;
@@ -24,6 +26,7 @@ pub use assignment::{Assignment, Value};
 pub use attributes::{Attributes, Source};
 pub use fault::AttributeFault;
 pub use files::{AttributeFile, AttributeFiles, attributes_of};
+pub use ident::push_without_ids;
 pub use line_ends::{LineEnds, ids_decide_as_git_does};
 pub use normalization::{
     Normalization, is_binary, is_unconverted, normalization_of, push_normalized,
