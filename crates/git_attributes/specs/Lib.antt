@@ -3,6 +3,8 @@ pub mod Clean
 pub mod Conversions
 pub mod Files
 pub mod FolderSteps
+pub mod Ident
+pub mod Lfs
 pub mod Lines
 pub mod Normalization
 pub mod Quoted
