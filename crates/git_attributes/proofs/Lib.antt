@@ -1,5 +1,7 @@
 mod Auto
 mod Binary
+mod Cleaning
+mod FirstBytes
 mod FolderBarriers
 mod FolderFronts
 mod FolderSights
@@ -8,6 +10,7 @@ mod Giving
 mod KnownFiles
 mod Leaving
 mod Lines
+mod PointerLines
 pub mod Sent
 mod SharedSearch
 mod StagedFiles

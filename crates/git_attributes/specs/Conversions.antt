@@ -4,8 +4,8 @@ use Rattle.std.specs.Str.{bytes_eq}
 use Rattle.git_attributes.specs.declared.conversion.Configured.{Configured}
 use Rattle.git_attributes.specs.declared.conversion.Steps.{Steps}
 use Rattle.git_attributes.specs.declared.normalization.Normalization.{Normalization}
-use Rattle.git_attributes.specs.declared.normalization.Normalization.TheVariants.{Off, On, Auto}
-use Rattle.git_attributes.specs.Assignments.{Given, State, Set, Unset, Unspecified, Text}
+use Rattle.git_attributes.specs.declared.normalization.Normalization.TheVariants.{Off}
+use Rattle.git_attributes.specs.Assignments.{Given, State, Set, Text}
 use Rattle.git_attributes.specs.Normalization.{normalization_of}
 use Rattle.git_attributes.specs.States.{state_in}
 

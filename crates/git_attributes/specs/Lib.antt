@@ -8,6 +8,7 @@ pub mod Lfs
 pub mod Lines
 pub mod Normalization
 pub mod Quoted
+pub mod Reading
 pub mod SharedLaws
 pub mod StagedFiles
 pub mod States

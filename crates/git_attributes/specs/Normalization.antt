@@ -1,5 +1,5 @@
 -- Which files git takes for texts (gitattributes(5), `text` and `eol`).
-use Rattle.std.specs.Prelude.{◌||◌, Bool, true, false, List, codes, Option, Some, None, if◌then◌else◌}
+use Rattle.std.specs.Prelude.{◌||◌, Bool, false, List, codes, Option, Some, None, if◌then◌else◌}
 use Rattle.std.specs.Option.{option_or}
 use Rattle.std.specs.Str.{bytes_eq}
 use Rattle.git_attributes.specs.declared.normalization.Normalization.{Normalization}

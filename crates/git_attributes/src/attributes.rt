@@ -52,7 +52,7 @@ fn split_line(text: &[u8]) -> (&[u8], &[u8])
 }
 
 /// Returns the first line of a text, and the text after it. None if the text is empty.
-fn line_at(text: &[u8]) -> Option<(&[u8], &[u8])>
+pub(crate) fn line_at(text: &[u8]) -> Option<(&[u8], &[u8])>
     ensures { option_map (λ x. (x.0.now, x.1.now)) result ≡ line_step text.now }
 {
     match text {

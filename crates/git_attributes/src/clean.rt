@@ -4,6 +4,7 @@ ghost use Rattle.std.specs.Prelude.{◌≡◌, OnOk, List, ℕ};
 ghost use Rattle.status_index.specs.States.{index_of};
 ghost use Rattle.git_attributes.specs.Clean.{cleaned, filtered, finished, has_stored, if_ident, is_kept, stored, AutoLaw};
 ghost use Rattle.git_attributes.specs.Ident.{without_ids};
+ghost use Rattle.git_attributes.specs.Reading.{IsOfAll, IsOfGiven};
 ghost use Rattle.status_index.specs.Entries.{IndexEntry};
 
 use crate::attributes::Attributes;
@@ -121,8 +122,8 @@ impl CleanFilter<'_, '_, '_> {
 /// # Errors
 /// The file's fault, or out of memory.
 fn read_filtered<F: ReadBytes>(lfs: bool, file: &mut F, buffer: &mut Vec<u8>) -> Result<(), Fault>
-    ensures known { ReadsStored (F.left file.old) (filtered lfs) buffer.new.items result }
-    ensures seen { IsStoredGiven (F.may_give file.old) (filtered lfs) buffer.new.items result }
+    ensures known { IsOfAll (λ bytes _. buffer.new.items ≡ filtered lfs bytes) (F.left file.old) result }
+    ensures seen { IsOfGiven (λ bytes _. buffer.new.items ≡ filtered lfs bytes) (F.may_give file.old) result }
 {
     buffer.clear();
     if lfs {

@@ -1,6 +1,6 @@
 //! Git's attributes: those that attribute files assign to a path, and the bytes that git stores by them.
 //!
-//! Begin at `clean`, the filter, which makes a file's `conversion`: to a pointer of git-lfs (`lfs`), of its line ends
+//! Begin at `clean`, the filter, which makes a file's `conversion`: to a pointer of git-lfs (`lfs`, which knows a `pointer`), of its line ends
 //! (`normalization`), and of `$Id$` (`ident`). It compares this with git's rule for line ends.
 //! `attributes` has the states that `files` give to a path's attributes: it reads their lines (`line`), which have a
 //! pattern or a macro, and assignments (`assignment`), between blanks or in quotes (`words`). The patterns are those of the
@@ -20,6 +20,7 @@ pub mod laws;
 mod lfs;
 mod line;
 pub mod normalization;
+mod pointer;
 mod shared_search;
 pub mod staged_files;
 mod words;
@@ -32,8 +33,9 @@ pub use conversion::{Configured, Steps, is_unconverted, steps_of};
 pub use fault::AttributeFault;
 pub use files::{AttributeFile, AttributeFiles, attributes_of};
 pub use ident::push_without_ids;
-pub use lfs::{is_pointer, read_for_lfs};
+pub use lfs::read_for_lfs;
 pub use normalization::{Normalization, is_binary, normalization_of, push_normalized};
+pub use pointer::is_pointer;
 pub use shared_search::find_attribute_files;
 pub use staged_files::WithStaged;
 pub use worktree_files::{ATTRIBUTES_LIMIT, FolderSearch};

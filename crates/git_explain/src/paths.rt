@@ -12,7 +12,7 @@ use crate::explainer::Explainer;
 use crate::json::{push_json, push_other_json};
 use crate::text::{push_other, push_text};
 use bstr::BStr;
-use git_attributes::{AttributeFiles, FolderSearch, CleanFilter, attributes_of};
+use git_attributes::{AttributeFiles, CleanFilter, FolderSearch, attributes_of};
 use git_status::{Asked, Failure, FindBeside, Question};
 use status_base::worktree::{GuardedWorktree, Pathspec, SubmoduleStatus, Worktree};
 use status_index::{Entry, State};
