@@ -1,4 +1,4 @@
--- What the filter returns is the specified conversion.
+-- The filter returns the specified conversion.
 use Rattle.std.proofs.Common.{◌≡◌, Bool, false, List, ℕ, Bor, inr, refl, sym, subst, if◌then◌else◌}
 use Rattle.std.specs.Prelude.{Option, None, Result, Ok, Err}
 use Rattle.std.specs.Result.{IsErrAnd}

@@ -11,8 +11,8 @@ has_dollar (b ∷ rest) = b == 36 || (not (b == 10) && has_dollar rest)
 abbrev pub begins_id : List ℕ → Bool
 begins_id text = bytes_eq (take 3 text) (codes "Id:") && has_dollar (drop 3 text)
 
--- What is stored of a text. Where an id begins, `$Id$` is stored, and nothing of what comes after its first dollar sign, up
--- to and with the next one. Each other byte is stored as it is. `true` says that the text begins within an id.
+-- The bytes that are stored of a text. Of an id `$Id$` is stored, and none of its bytes from the first dollar sign to the next
+-- one. Each other byte is stored as it is. `true` says that the text begins within an id.
 abbrev pub stored_from : Bool → List ℕ → List ℕ
 stored_from is_within [] = []
 stored_from true (b ∷ rest) = stored_from (not (b == 36)) rest

@@ -87,7 +87,7 @@ is_letter b = is_digit b || (nat_le 65 b && nat_le b 90) || (nat_le 97 b && nat_
 abbrev pub is_extension_key : List ℕ → Bool
 is_extension_key key = bytes_eq (take 4 key) (codes "ext-") && is_digit (slice_index key 4) && slice_index key 5 == 45 && is_letter (slice_index key 6)
 
--- The key of an extension comes before this place, and an oid after it.
+-- The key of an extension comes before this position, and an oid after it.
 abbrev pub is_parted : List ℕ → ℕ → Bool
 is_parted line at = is_extension_key (take at line) && is_oid (drop (at + 1) line)
 
@@ -152,7 +152,7 @@ abbrev pub pointer : List ℕ → ℕ → List ℕ
 pointer digest size =
     codes "version https://git-lfs.github.com/spec/v1\noid sha256:" ++ encode_lower digest ++ codes "\nsize " ++ decimal size ++ codes "\n"
 
--- What is stored of a file's bytes: a pointer to them, but those of a pointer stay.
+-- The bytes that are stored of a file: a pointer to its bytes, but those of a pointer stay.
 abbrev pub stored_by_lfs : List ℕ → List ℕ
 stored_by_lfs bytes = if is_pointer bytes then bytes else pointer (sha256 bytes) (length bytes)
 

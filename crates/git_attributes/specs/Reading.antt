@@ -1,4 +1,4 @@
--- What is computed from all bytes of a file.
+-- Results that are computed from all bytes of a file.
 use Rattle.std.specs.Prelude.{◌≡◌, ◌⊎◌, List, ℕ, Option, Some, None, Result, Ok, Err, ⊤}
 use Rattle.status_index.specs.Content.{Content}
 use Rattle.status_index.specs.Given.{MayGive}

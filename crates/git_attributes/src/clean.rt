@@ -23,7 +23,7 @@ use std::alloc::AllocError;
 pub struct CleanFilter<'a, 'files, 'index> {
     /// The attributes of the worktree's paths.
     pub attributes: &'a Attributes<'files>,
-    /// What the repository's configuration says of conversions.
+    /// The conversions of the repository's configuration.
     pub configured: Configured,
     /// The index. With `Normalization::Auto` the line ends of a file aren't converted whose bytes are stored already.
     pub index: &'index State,

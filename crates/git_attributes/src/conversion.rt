@@ -8,7 +8,7 @@ use crate::assignment::{Assignment, Value, state_in};
 use crate::normalization::{Normalization, normalization_of};
 use git_patterns::text::is_word;
 
-/// What a repository's configuration says of conversions. The attributes of a path say which of them its file has.
+/// The conversions of a repository's configuration. The attributes of a path say which of them its file has.
 #[derive(Clone, Copy, Debug, PartialEq, Eq)]
 pub struct Configured {
     /// Whether git decides by a file's bytes whether to convert its line ends, if its attributes don't (`core.autocrlf` is true or

@@ -12,7 +12,7 @@ use std::alloc::AllocError;
 /// How many bytes are read at once.
 const CHUNK_LEN: usize = 1 << 16;
 
-/// What a pointer says of a file's bytes.
+/// The digest and the number of a file's bytes, which a pointer has.
 #[derive(Clone, Copy, Debug)]
 struct Hashed {
     /// Their SHA-256 digest.

@@ -9,7 +9,7 @@ use Rattle.git_patterns.specs.Text.{begins_with, below, ends_in_slash}
 use Rattle.git_patterns.specs.Wildmatch.{Part, is_match}
 use Rattle.git_patterns.specs.declared.wildcards.Style.{Style}
 
--- What a condition asks of: the repository's folder, by a pattern whose letters match in either case or not, the branch of `HEAD`, or the
+-- A condition asks for the repository's folder, by a pattern whose letters match in either case or not, the branch of `HEAD`, or the
 -- URL of a remote.
 pub data Asks : Type 0 where
   GitDir : Bool → List ℕ → Asks

@@ -21,7 +21,7 @@ module _ {T U : Type 0} where
   is_compared (Change (Modification x c zero)) = true
   is_compared _ = false
 
--- What attribute files say, and what the configuration says of conversions.
+-- The rules of attribute files, and the conversions of the configuration.
 abbrev pub Asks : Type 0
 Asks = Said × Configured
 

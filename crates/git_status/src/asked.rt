@@ -27,7 +27,7 @@ pub struct Settings {
     pub timestamp: Moment,
     /// How entries are compared with the worktree, and by how many threads.
     pub options: Options,
-    /// What the repository's configuration says of conversions.
+    /// The conversions of the repository's configuration.
     pub conversions: Configured,
     /// How lines are printed. With `None` no line is printed, and the first entry that differs ends the comparison of files.
     pub lines: Option<LineStyle>,
