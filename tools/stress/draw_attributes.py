@@ -120,8 +120,7 @@ class AttributeDrawing(draw_repositories.Drawing):
         elif self.user_file == "named":
             lines += f"attributesFile = {self.random.choice(['~', USER, self.path(USER)])}/named\n"
         lines = f"[core]\n{lines}"
-        if self.chance(0.5):
-            lines += '[filter "lfs"]\n%s = %s\n' % self.random.choice(LFS)
+        lines += '[filter "lfs"]\n%s = %s\n' % self.random.choice(LFS)
         self.configure(lines)
         self.note(lines)
 
