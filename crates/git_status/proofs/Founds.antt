@@ -85,11 +85,11 @@ module _ {T U : Type 0} where
       → EndsWithChecksum a.settings.kind bytes → a.are_files index files → attributes_view filter.attributes.now ≡ attributes_of files → filter.configured ≡ a.settings.conversions → filter.index.now ≡ index → filter.kind ≡ a.settings.kind
       → IsFoundRun wanted a.may_find (attributes_view filter.attributes.now) (a.query filter (settings a.settings.options index)) a.may_return index a.settings old result new → IsIndexFound wanted a bytes index old result new
   unfolding IsIndexFound
-  index_found wanted a bytes index files filter old result new checked found attributes auto entries kind run =
+  index_found wanted a bytes index files filter old result new checked found attributes configured entries kind run =
       inl (
         checked,
         (
-          record { files = files; found = found; filter = filter; attributes = attributes; auto = auto; entries = entries; kind = kind },
+          record { files = files; found = found; filter = filter; attributes = attributes; configured = configured; entries = entries; kind = kind },
           subst (λ said. IsFoundRun wanted a.may_find said (a.query filter (settings a.settings.options index)) a.may_return index a.settings old result new) attributes run,
         ),
       )

@@ -11,7 +11,7 @@ use Rattle.status_call.specs.Views.{as_seen}
 use Rattle.status_call.specs.StatusTheorem.{IsBeginning, IsStatusReport, considered_entries, start_of}
 use Rattle.status_call.specs.Records.{records_of}
 use Rattle.status_call.specs.Visits.{Visit, finding_of}
-use Rattle.git_status.specs.Kept.{is_left_out}
+use Rattle.git_status.specs.Kept.{Asks, is_left_out}
 use Rattle.git_status.specs.Runs.{Asking}
 use Rattle.git_status.specs.RefreshLaw.{ComparesBySizes, IsBySizes, RefreshesLaw, RunHidesNothing, RunLaw}
 use Rattle.git_status.specs.Refreshes.{IsFileRefreshed}
@@ -29,7 +29,7 @@ module _ {U : Type 0} (a : Asking (Unit {0}) U) (bytes : List ℕ) where
         → RunHidesNothing a bytes old new refreshed r whole extensions made q
     hides_nothing q modelled sizes met later later_sizes selects early =
         let index = made.run.0.index in
-        let asks = (attributes_of made.run.0.converting.files, a.settings.conversions) in
+        let asks : Asks = (attributes_of made.run.0.converting.files, a.settings.conversions) in
         let visits = made.run.1.visits in
         let begins = subst (λ (vs : List (Visit (Unit {0}) U)). IsBeginning (map finding_of vs) (records_of q (start_of q index) (considered_entries q index))) (sym met.grew) (met.beginning modelled) in
         refresh_law asks q later visits (index_of index) sizes later_sizes selects (index.valid, begins)

@@ -56,18 +56,18 @@ abbrev with_change : Option ApplyChange → List IndexEntry → List IndexEntry
 with_change (Some c) es = applied_one c es
 with_change None es = es
 
-module _ {T U : Type 0} (asks : Asks) where
+module _ {T U : Type 0} (said : Asks) where
   -- ---- one record
 
   -- The entries after the change that a record asks for, if it is kept.
   abbrev stepped : Visit T U → List IndexEntry → List IndexEntry
-  stepped v es = if is_left_out asks v then es else with_change (asked v) es
+  stepped v es = if is_left_out said v then es else with_change (asked v) es
 
-  refreshed_cons : (v : Visit T U) (vs : List (Visit T U)) (es : List IndexEntry) → refreshed_entries asks (v ∷ vs) es ≡ refreshed_entries asks vs (stepped v es)
-  refreshed_cons v vs es = by (is_left_out asks v)
+  refreshed_cons : (v : Visit T U) (vs : List (Visit T U)) (es : List IndexEntry) → refreshed_entries said (v ∷ vs) es ≡ refreshed_entries said vs (stepped v es)
+  refreshed_cons v vs es = by (is_left_out said v)
     where
       rest : List (Visit T U)
-      rest = filter (λ w. not (is_left_out asks w)) vs
+      rest = filter (λ w. not (is_left_out said w)) vs
 
       asks : (o : Option ApplyChange) → applied (cons_option o (changes_of rest)) es ≡ applied (changes_of rest) (with_change o es)
       asks (Some c) = refl
@@ -77,8 +77,8 @@ module _ {T U : Type 0} (asks : Asks) where
       by true = refl
       by false = asks (asked v)
 
-  stepped_here : (v : Visit T U) (es : List IndexEntry) → slice_get (stepped v es) v.entry_index ≡ option_map (refreshed_entry asks v) (slice_get es v.entry_index)
-  stepped_here v es = by (is_left_out asks v)
+  stepped_here : (v : Visit T U) (es : List IndexEntry) → slice_get (stepped v es) v.entry_index ≡ option_map (refreshed_entry said v) (slice_get es v.entry_index)
+  stepped_here v es = by (is_left_out said v)
     where
       asks : (o : Option ApplyChange) → asked v ≡ o → slice_get (with_change o es) v.entry_index ≡ option_map (updated_entry o) (slice_get es v.entry_index)
       asks (Some c) is =
@@ -92,7 +92,7 @@ module _ {T U : Type 0} (asks : Asks) where
       by false = asks (asked v) refl
 
   stepped_there : (v : Visit T U) (es : List IndexEntry) (at : ℕ) → v.entry_index ≢ at → slice_get (stepped v es) at ≡ slice_get es at
-  stepped_there v es at other = by (is_left_out asks v)
+  stepped_there v es at other = by (is_left_out said v)
     where
       asks : (o : Option ApplyChange) → asked v ≡ o → slice_get (with_change o es) at ≡ slice_get es at
       asks (Some c) is = kept_there (changed_entry c) (entry_index_of c) at es (λ same. other (sym (place_kept v.entry_index v.status c is) ∙ same))
@@ -107,7 +107,7 @@ module _ {T U : Type 0} (asks : Asks) where
   abbrev IsApart : ℕ → Visit T U → Type 0
   IsApart at v = v.entry_index ≢ at
 
-  others_kept : (visits : List (Visit T U)) (es : List IndexEntry) (at : ℕ) → All (IsApart at) visits → slice_get (refreshed_entries asks visits es) at ≡ slice_get es at
+  others_kept : (visits : List (Visit T U)) (es : List IndexEntry) (at : ℕ) → All (IsApart at) visits → slice_get (refreshed_entries said visits es) at ≡ slice_get es at
   others_kept [] es at apart = refl
   others_kept (v ∷ vs) es at apart =
       ap (λ (l : List IndexEntry). slice_get l at) (refreshed_cons v vs es)
@@ -118,63 +118,63 @@ module _ {T U : Type 0} (asks : Asks) where
   Ascends a b = a.entry_index < b.entry_index
 
   abbrev IsOwn : List IndexEntry → List IndexEntry → Visit T U → Type 0
-  IsOwn new es v = slice_get new v.entry_index ≡ option_map (refreshed_entry asks v) (slice_get es v.entry_index)
+  IsOwn new es v = slice_get new v.entry_index ≡ option_map (refreshed_entry said v) (slice_get es v.entry_index)
 
-  recorded : (visits : List (Visit T U)) (es : List IndexEntry) → AllPairs Ascends visits → All (IsOwn (refreshed_entries asks visits es) es) visits
+  recorded : (visits : List (Visit T U)) (es : List IndexEntry) → AllPairs Ascends visits → All (IsOwn (refreshed_entries said visits es) es) visits
   recorded [] es ascends = All-nil (IsOwn es es)
   recorded (v ∷ vs) es ascends =
-      All-cons (IsOwn (refreshed_entries asks (v ∷ vs) es) es) v vs head
+      All-cons (IsOwn (refreshed_entries said (v ∷ vs) es) es) v vs head
       (tail (recorded vs (stepped v es) (λ i j c before within. ascends (suc i) (suc j) c (omega arith) (omega arith))))
     where
       above : (k : ℕ) (d : Visit T U) → k < length vs → v.entry_index < (slice_index_or vs k d).entry_index
       above k d inside = ascends zero (suc k) d (omega arith) (omega arith)
 
-      head : IsOwn (refreshed_entries asks (v ∷ vs) es) es v
+      head : IsOwn (refreshed_entries said (v ∷ vs) es) es v
       head =
           ap (λ (l : List IndexEntry). slice_get l v.entry_index) (refreshed_cons v vs es)
           ∙ (others_kept vs (stepped v es) v.entry_index (λ k d inside same. let less = above k d inside in omega arith)
           ∙ stepped_here v es)
 
-      tail : All (IsOwn (refreshed_entries asks vs (stepped v es)) (stepped v es)) vs → All (IsOwn (refreshed_entries asks (v ∷ vs) es) es) vs
+      tail : All (IsOwn (refreshed_entries said vs (stepped v es)) (stepped v es)) vs → All (IsOwn (refreshed_entries said (v ∷ vs) es) es) vs
       tail later k d inside =
           let w = slice_index_or vs k d in
           let less : v.entry_index < w.entry_index = above k d inside in
           ap (λ (l : List IndexEntry). slice_get l w.entry_index) (refreshed_cons v vs es)
           ∙ (later k d inside
-          ∙ ap (option_map (refreshed_entry asks w)) (stepped_there v es w.entry_index (λ same. omega arith)))
+          ∙ ap (option_map (refreshed_entry said w)) (stepped_there v es w.entry_index (λ same. omega arith)))
 
-  pub own_law : (visits : List (Visit T U)) (es : List IndexEntry) → OwnLaw asks visits es
+  pub own_law : (visits : List (Visit T U)) (es : List IndexEntry) → OwnLaw said visits es
   own_law visits es ascends = record { recorded = recorded visits es ascends; others = λ at apart. others_kept visits es at apart }
 
-module _ {U : Type 0} (asks : Asks) (q later : Query (Unit {0}) U) (visits : List (Visit (Unit {0}) U)) (es : List IndexEntry) where
-  pub refresh_law : RefreshLaw asks q later visits es
+module _ {U : Type 0} (said : Asks) (q later : Query (Unit {0}) U) (visits : List (Visit (Unit {0}) U)) (es : List IndexEntry) where
+  pub refresh_law : RefreshLaw said q later visits es
   refresh_law sizes later_sizes selects records early k d inside old new seen =
       let v = slice_index_or visits k d in
-      let own : Some new ≡ Some (refreshed_entry asks v old) =
-      sym seen.new_entry ∙ (recorded asks visits es (reports_ascend q es visits records.1) k d inside ∙ ap (option_map (refreshed_entry asks v)) seen.old_entry) in
-      let is : new ≡ refreshed_entry asks v old = one_value new (refreshed_entry asks v old) own in
-      subst Shows (sym is) (by (is_left_out asks v) refl (subst (SeesSame q later old) is seen.same))
+      let own : Some new ≡ Some (refreshed_entry said v old) =
+      sym seen.new_entry ∙ (recorded said visits es (reports_ascend q es visits records.1) k d inside ∙ ap (option_map (refreshed_entry said v)) seen.old_entry) in
+      let is : new ≡ refreshed_entry said v old = one_value new (refreshed_entry said v old) own in
+      subst Shows (sym is) (by (is_left_out said v) refl (subst (SeesSame q later old) is seen.same))
     where
       v : Visit (Unit {0}) U
       v = slice_index_or visits k d
 
       Shows : IndexEntry → Type 0
-      Shows e = shown_letters (later_verdict asks q later visits es e) ≡ Ok (letters v.status)
+      Shows e = shown_letters (later_verdict said q later visits es e) ≡ Ok (letters v.status)
 
       asks : Option ApplyChange
       asks = change_of v.entry_index v.status
 
-      differ : DifferInStats (considered later.prefix (refreshed_entries asks visits es)) (considered q.prefix es)
+      differ : DifferInStats (considered later.prefix (refreshed_entries said visits es)) (considered q.prefix es)
       differ =
-          subst (λ (prefix : List ℕ). DifferInStats (considered prefix (refreshed_entries asks visits es)) (considered q.prefix es)) (sym selects.prefix)
-          (considered_differ q.prefix (refreshed_entries asks visits es) es (stats_alone (kept_changes asks visits) es))
+          subst (λ (prefix : List ℕ). DifferInStats (considered prefix (refreshed_entries said visits es)) (considered q.prefix es)) (sym selects.prefix)
+          (considered_differ q.prefix (refreshed_entries said visits es) es (stats_alone (kept_changes said visits) es))
 
       by_status : (stat : Stat) → (status_of q old ≡ Ok (Some v.status) → shown_letters (status_of later (with_stat stat old)) ≡ Ok (letters v.status)) → Shows (with_stat stat old)
       by_status stat kept =
-          verdict_shown q later selects (considered later.prefix (refreshed_entries asks visits es)) (considered q.prefix es) differ old stat v.status kept (report_status q es visits records.1 records.0 k d inside old seen.old_entry)
+          verdict_shown q later selects (considered later.prefix (refreshed_entries said visits es)) (considered q.prefix es) differ old stat v.status kept (report_status q es visits records.1 records.0 k d inside old seen.old_entry)
 
-      by : (left : Bool) → is_left_out asks v ≡ left → SeesSame q later old (if left then old else updated_entry asks old) → Shows (if left then old else updated_entry asks old)
-      by true left same = by_status old.stat (λ status. left_out_law q later old sizes later_sizes (early (list_any_at (is_left_out asks) visits k d inside left)) v.status status same)
+      by : (left : Bool) → is_left_out said v ≡ left → SeesSame q later old (if left then old else updated_entry asks old) → Shows (if left then old else updated_entry asks old)
+      by true left same = by_status old.stat (λ status. left_out_law q later old sizes later_sizes (early (list_any_at (is_left_out said) visits k d inside left)) v.status status same)
       by false left same =
           let one = only_stat asks old in
           subst Shows (sym one)

@@ -4,14 +4,14 @@ use Rattle.std.proofs.lemmas.List.{map_push, take_more}
 use Rattle.git_attributes.specs.Views.{attributes_view}
 use Rattle.status_call.specs.RecorderVisits.{visit_of}
 use Rattle.status_call.proofs.IndexChanges.{asked}
-use Rattle.git_status.specs.Kept.{is_left_out, kept_changes}
+use Rattle.git_status.specs.Kept.{Asks, is_left_out, kept_changes}
 use Rattle.git_status.proofs.LeftOut.{all_more, change_more, none_more, not_all, out_more}
 use Rattle.git_status.proofs.kept.kept_changes.Goals as goal
 use Rattle.git_status.proofs.kept.kept_changes.Goals.{then-branch, else-branch+in-Some+in_ok-push, else-branch+in_default}
 
 pub loop-record-preserved : goal.loop-record-preserved
 loop-record-preserved g c =
-    let said = (attributes_view c.args.attributes.now, c.args.configured) in
+    let said : Asks = (attributes_view c.args.attributes.now, c.args.configured) in
     let records = c.args.records.now in
     let at = c.loop-record.record-index in
     let item = c.record-item.result in
