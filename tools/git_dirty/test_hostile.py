@@ -39,6 +39,8 @@ class Watched(Dirty):
     """Runs the program with a library that notes which files it opens, and with limits."""
 
     SOURCE = Path(__file__).with_name("log_opens.c")
+    # Differences from git, which are rows of rows.txt: a pipe in place of a tracked file, and a link in place of a `.git`.
+    ROWS = {("d/b", "a named pipe"), ("t/.git", "a link out")}
     # The kinds of nodes that replace a file.
     KINDS = ["a named pipe", "a link to /dev/zero", "a link out", "a folder", "2 GiB", "unreadable", "gone"]
 
@@ -218,8 +220,8 @@ class ReplacedFiles(Watched):
         for name in names:
             place, gone = os.path.normpath(self.path(name)), None
             for kind in reversed(self.KINDS):
-                if kind in ("unreadable", "gone") and not os.path.exists(place) or (name, kind) == ("d/b", "a named pipe"):
-                    continue  # A pipe in place of a tracked file is a row of rows.txt.
+                if kind in ("unreadable", "gone") and not os.path.exists(place) or (name, kind) in self.ROWS:
+                    continue
                 with self.subTest(name=name, kind=kind), self.replaced(place, kind):
                     gits = None if kind == "a named pipe" and name not in self.WITHOUT_WAIT else self.answer()
                     gone = gits if kind == "gone" else gone

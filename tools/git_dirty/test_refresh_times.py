@@ -22,7 +22,6 @@ class Times(Careful):
         rows = {"paths": lambda: None, "assume-valid": lambda: self.git("update-index", "--assume-unchanged", "d/b")}
         rows["skip-worktree"] = lambda: self.git("update-index", "--skip-worktree", "d/b")
         rows["a filter"] = lambda: self.write(".git/info/attributes", "b filter=x\n")
-        rows["a filter without use"] = lambda: self.write(".git/info/attributes", "b filter\n")
         rows["untracked files"] = lambda: self.git("update-index", "--force-untracked-cache")
         for name, make in rows.items():
             self.make(name)

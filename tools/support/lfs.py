@@ -24,8 +24,8 @@ def pointer(content):
 
 
 def is_pointer(content):
-    if len(content) >= POINTER_LIMIT:
-        return False
+    if not content or len(content) >= POINTER_LIMIT:
+        return not content
     lines = [line.removesuffix(b"\r") for line in content.strip(BLANKS).split(b"\n")]
     pairs, keys, digits = [line.partition(b" ") for line in lines if line], list(KEYS), set()
     for key, blank, value in pairs:
@@ -38,7 +38,7 @@ def is_pointer(content):
             return False
         else:
             digits.add(extension[1])
-    return not pairs or not keys
+    return not keys
 
 
 def is_value(key, value):

@@ -10,7 +10,7 @@ use Rattle.status_index.specs.Content.{Content}
 use Rattle.status_index.specs.declared.fault.Fault.{Fault}
 use Rattle.status_index.specs.declared.fault.Fault.TheVariants.{Memory}
 use Rattle.git_attributes.specs.declared.conversion.Steps.{Steps}
-use Rattle.git_attributes.specs.Clean.{conversion_by, filtered, finished, in_utf8, read_as}
+use Rattle.git_attributes.specs.Clean.{conversion_by, filtered, finished, read_as}
 use Rattle.git_attributes.specs.Conversions.{is_empty}
 
 -- out of memory is allowed after each conversion
@@ -25,6 +25,6 @@ made empty fault bytes some ended = rw (some, ended) refl
 
 -- the bytes that are stored of a content that is read to its end
 pub stored_converted : {F : Type 0} (left : F → Option Content) (steps : Steps) (is_stored : List ℕ → Bool) (content : Content) (was : Option Content) (buffer : Bor (List ℕ))
-    → is_empty steps ≡ false → content.fault ≡ None → buffer.now ≡ finished steps is_stored (in_utf8 steps.encoding (filtered steps.lfs content.bytes)) → IsConverted left (conversion_by steps is_stored content) was (Ok (Buffer buffer))
+    → is_empty steps ≡ false → content.fault ≡ None → buffer.now ≡ finished steps is_stored (filtered steps.lfs content.bytes) → IsConverted left (conversion_by steps is_stored content) was (Ok (Buffer buffer))
 stored_converted left steps is_stored content was buffer some ended stored =
-    subst (λ c. IsConverted left c was (Ok (Buffer buffer))) (sym (made (is_empty steps) content.fault (finished steps is_stored (in_utf8 steps.encoding (filtered steps.lfs content.bytes))) some ended)) stored
+    subst (λ c. IsConverted left c was (Ok (Buffer buffer))) (sym (made (is_empty steps) content.fault (finished steps is_stored (filtered steps.lfs content.bytes)) some ended)) stored

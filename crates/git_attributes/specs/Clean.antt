@@ -1,5 +1,5 @@
 -- The bytes that are stored of a file, by its attributes.
-use Rattle.std.specs.Prelude.{◌≡◌, ◌↔◌, not, ◌&&◌, [], ◌∷◌, ℕ, ◌||◌, Bool, true, false, List, filter, Option, Some, None, unwrap_or, if◌then◌else◌}
+use Rattle.std.specs.Prelude.{◌≡◌, ◌↔◌, not, ◌&&◌, [], ◌∷◌, ℕ, ◌||◌, Bool, true, false, List, filter, Option, Some, None, if◌then◌else◌}
 use Rattle.std.specs.List.{list_any}
 use Rattle.status_base.specs.Conversions.{Conversion, other, refused, same}
 use Rattle.status_index.specs.BlobId.{blob_id, same_id}
@@ -14,8 +14,6 @@ use Rattle.git_attributes.specs.declared.normalization.Normalization.{Normalizat
 use Rattle.git_attributes.specs.declared.normalization.Normalization.TheVariants.{Off, On, Auto}
 use Rattle.git_attributes.specs.declared.conversion.Steps.{Steps}
 use Rattle.git_attributes.specs.Conversions.{is_empty, steps_of}
-use Rattle.git_attributes.specs.declared.encoding.Encoding.{Encoding}
-use Rattle.git_attributes.specs.Encodings.{decoded}
 use Rattle.git_attributes.specs.Files.{states_of}
 use Rattle.git_attributes.specs.Ident.{without_ids}
 use Rattle.git_attributes.specs.Lfs.{stored_by_lfs}
@@ -43,11 +41,6 @@ if_ident ident bytes = if ident then without_ids bytes else bytes
 abbrev pub finished : Steps → (List ℕ → Bool) → List ℕ → List ℕ
 finished steps is_stored bytes = if_ident steps.ident (stored steps.line_ends (is_stored (if_ident steps.ident bytes)) bytes)
 
--- The UTF-8 form of a text in an encoding, or the bytes as they are.
-abbrev pub in_utf8 : Option Encoding → List ℕ → List ℕ
-in_utf8 None bytes = bytes
-in_utf8 (Some encoding) bytes = unwrap_or (decoded encoding bytes) bytes
-
 -- The bytes that git-lfs returns, or the file's.
 abbrev pub filtered : Bool → List ℕ → List ℕ
 filtered lfs bytes = if lfs then stored_by_lfs bytes else bytes
@@ -59,7 +52,7 @@ read_as bytes (Some fault) = refused fault
 -- A file's conversion.
 abbrev pub conversion_by : Steps → (List ℕ → Bool) → Content → Conversion
 conversion_by steps is_stored content =
-    if is_empty steps then same else read_as (finished steps is_stored (in_utf8 steps.encoding (filtered steps.lfs content.bytes))) content.fault
+    if is_empty steps then same else read_as (finished steps is_stored (filtered steps.lfs content.bytes)) content.fault
 
 -- A file's conversion, by the attributes of its path and the configuration.
 abbrev pub cleaned : CleanFilter → Content → List ℕ → Conversion

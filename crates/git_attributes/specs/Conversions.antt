@@ -1,13 +1,11 @@
 -- Which conversions git makes of a file before it stores it (gitattributes(5)).
-use Rattle.std.specs.Prelude.{◌&&◌, ◌||◌, not, Bool, true, false, List, codes, Option, None, is_none}
+use Rattle.std.specs.Prelude.{◌&&◌, ◌||◌, not, Bool, true, false, List, codes}
 use Rattle.std.specs.Str.{bytes_eq}
 use Rattle.git_attributes.specs.declared.conversion.Configured.{Configured}
 use Rattle.git_attributes.specs.declared.conversion.Steps.{Steps}
 use Rattle.git_attributes.specs.declared.normalization.Normalization.{Normalization}
 use Rattle.git_attributes.specs.declared.normalization.Normalization.TheVariants.{Off}
 use Rattle.git_attributes.specs.Assignments.{Given, State, Set, Text}
-use Rattle.git_attributes.specs.declared.encoding.Encoding.{Encoding}
-use Rattle.git_attributes.specs.Encodings.{encoding_of, is_utf8}
 use Rattle.git_attributes.specs.Normalization.{normalization_of}
 use Rattle.git_attributes.specs.States.{state_in}
 
@@ -31,18 +29,10 @@ is_lfs known = is_text_lfs (state_in (codes "filter") known)
 abbrev pub has_ident : List Given → Bool
 has_ident known = is_set (state_in (codes "ident") known)
 
-abbrev pub encoding_named : State → Option Encoding
-encoding_named (Text name) = encoding_of name
-encoding_named state = None
-
--- The encoding of the text, if it is one of those that are decoded.
-abbrev pub encoding_in : List Given → Option Encoding
-encoding_in known = encoding_named (state_in (codes "working-tree-encoding") known)
-
 -- The conversions of a file, by its attributes and the configuration.
 abbrev pub steps_of : List Given → Configured → Steps
 steps_of known configured =
-    record { lfs = configured.has_lfs && is_lfs known; encoding = encoding_in known; line_ends = normalization_of known configured.auto_line_ends; ident = has_ident known }
+    record { lfs = configured.has_lfs && is_lfs known; line_ends = normalization_of known configured.auto_line_ends; ident = has_ident known }
 
 abbrev pub is_off : Normalization → Bool
 is_off Off = true
@@ -50,7 +40,7 @@ is_off how = false
 
 -- A file is stored as it is.
 abbrev pub is_empty : Steps → Bool
-is_empty steps = not steps.lfs && is_none steps.encoding && is_off steps.line_ends && not steps.ident
+is_empty steps = not steps.lfs && is_off steps.line_ends && not steps.ident
 
 -- ---- conversions that aren't made
 
@@ -58,14 +48,9 @@ is_empty steps = not steps.lfs && is_none steps.encoding && is_off steps.line_en
 abbrev pub is_filtered : List Given → Bool
 is_filtered known = is_text (state_in (codes "filter") known)
 
-abbrev pub is_unread : State → Bool
-is_unread Set = true
-is_unread (Text name) = not (is_utf8 name) && is_none (encoding_of name)
-is_unread state = false
-
--- There is an encoding that isn't decoded.
+-- There is an encoding.
 abbrev pub is_encoded : List Given → Bool
-is_encoded known = is_unread (state_in (codes "working-tree-encoding") known)
+is_encoded known = let state = state_in (codes "working-tree-encoding") known in is_set state || is_text state
 
 -- A filter other than that of git-lfs, or an encoding.
 abbrev pub is_unconverted : List Given → Configured → Bool

@@ -1,7 +1,6 @@
 pub mod Assignments
 pub mod Clean
 pub mod Conversions
-pub mod Encodings
 pub mod Files
 pub mod FolderSteps
 pub mod Ident

@@ -2,15 +2,13 @@
 
 ghost use Rattle.std.specs.Prelude.{◌≡◌, OnOk, List, ℕ};
 ghost use Rattle.status_index.specs.States.{index_of};
-ghost use Rattle.git_attributes.specs.Clean.{cleaned, filtered, finished, has_stored, if_ident, in_utf8, is_kept, stored, AutoLaw};
+ghost use Rattle.git_attributes.specs.Clean.{cleaned, filtered, finished, has_stored, if_ident, is_kept, stored, AutoLaw};
 ghost use Rattle.git_attributes.specs.Ident.{without_ids};
 ghost use Rattle.git_attributes.specs.Reading.{IsOfAll, IsOfGiven};
 ghost use Rattle.status_index.specs.Entries.{IndexEntry};
 
 use crate::attributes::Attributes;
 use crate::conversion::{Configured, Steps, steps_of};
-use crate::decoding::push_decoded;
-use crate::encoding::Encoding;
 use crate::ident::push_without_ids;
 use crate::lfs::read_for_lfs;
 use crate::normalization::{Normalization, has_crlf, is_binary, push_normalized};
@@ -19,8 +17,8 @@ use status_base::worktree::{ToGit, ToGitOutcome};
 use status_index::{Fault, HashKind, ReadBytes, State, compute_hash, read_all};
 use std::alloc::AllocError;
 
-/// Converts a worktree's files as git does before it stores them, which git calls cleaning: files of git-lfs, encodings, line
-/// ends, and `$Id$`.
+/// Converts a worktree's files as git does before it stores them, which git calls cleaning: files of git-lfs, line ends, and
+/// `$Id$`.
 #[derive(Drop)]
 pub struct CleanFilter<'a, 'files, 'index> {
     /// The attributes of the worktree's paths.
@@ -135,24 +133,6 @@ fn read_filtered<F: ReadBytes>(lfs: bool, file: &mut F, buffer: &mut Vec<u8>) ->
     }
 }
 
-/// Replaces a text in an encoding by its UTF-8 form. Bytes that are no such text stay.
-///
-/// # Errors
-/// Out of memory.
-fn decode(encoding: Option<Encoding>, bytes: &mut Vec<u8>) -> Result<(), AllocError>
-    ensures { OnOk result (bytes.new.items ≡ in_utf8 encoding bytes.old.items) }
-{
-    let Some(encoding) = encoding else {
-        return Ok(());
-    };
-    let mut text = Vec::new(*bytes.allocator());
-    if push_decoded(encoding, bytes, &mut text)? {
-        bytes.clear();
-        bytes.extend_from_slice(&text)?;
-    }
-    Ok(())
-}
-
 impl ToGit for CleanFilter<'_, '_, '_> {
     ghost use Rattle.std.proofs.Common.{ap};
 
@@ -174,7 +154,6 @@ impl ToGit for CleanFilter<'_, '_, '_> {
             return Ok(ToGitOutcome::Unchanged(file));
         }
         read_filtered(steps.lfs, &mut file, buffer)?;
-        decode(steps.encoding, buffer)?;
         self.finish(steps, buffer, path)?;
         Ok(ToGitOutcome::Buffer(buffer))
     }

@@ -1,11 +1,10 @@
 //! Which conversions git makes of a file before it stores it.
 
 ghost use Rattle.std.specs.Prelude.{◌≡◌, map};
-ghost use Rattle.git_attributes.specs.Conversions.{encoding_in, has_ident, is_empty, is_encoded, is_filtered, is_lfs, is_unconverted, steps_of};
+ghost use Rattle.git_attributes.specs.Conversions.{has_ident, is_empty, is_encoded, is_filtered, is_lfs, is_unconverted, steps_of};
 ghost use Rattle.git_attributes.specs.Views.{given_of, state_of};
 
 use crate::assignment::{Assignment, Value, state_in};
-use crate::encoding::{Encoding, encoding_of, is_utf8};
 use crate::normalization::{Normalization, normalization_of};
 use git_patterns::text::is_word;
 
@@ -24,8 +23,6 @@ pub struct Configured {
 pub struct Steps {
     /// Whether a pointer of git-lfs is stored in place of the file's bytes.
     pub lfs: bool,
-    /// The encoding of the text, which is stored as UTF-8. None if it is stored as it is.
-    pub encoding: Option<Encoding>,
     /// How line ends are stored.
     pub line_ends: Normalization,
     /// Whether each `$Id: .. $` is stored as `$Id$`.
@@ -38,7 +35,6 @@ pub fn steps_of(known: &[Assignment<'_>], configured: Configured) -> Steps
 {
     Steps {
         lfs: configured.has_lfs && is_lfs(known),
-        encoding: encoding_in(known),
         line_ends: normalization_of(known, configured.auto_line_ends),
         ident: has_ident(known),
     }
@@ -49,7 +45,7 @@ impl Steps {
     pub(crate) fn is_empty(self) -> bool
         ensures { result ≡ is_empty self }
     {
-        !self.lfs && self.encoding.is_none() && self.line_ends == Normalization::Off && !self.ident
+        !self.lfs && self.line_ends == Normalization::Off && !self.ident
     }
 }
 
@@ -77,29 +73,18 @@ fn is_filtered(known: &[Assignment<'_>]) -> bool
     matches!(state_in(b"filter", known), Value::Text(_))
 }
 
-/// Returns the encoding of the text, if it is one of those that are decoded here.
-fn encoding_in(known: &[Assignment<'_>]) -> Option<Encoding>
-    ensures { result ≡ encoding_in (map given_of known.now) }
-{
-    match state_in(b"working-tree-encoding", known) {
-        Value::Text(name) => encoding_of(name),
-        _ => None,
-    }
-}
-
-/// Returns whether there is an encoding that isn't decoded here.
+/// Returns whether there is an encoding.
 fn is_encoded(known: &[Assignment<'_>]) -> bool
     ensures { result ≡ is_encoded (map given_of known.now) }
 {
-    match state_in(b"working-tree-encoding", known) {
-        Value::Set => true,
-        Value::Text(name) => !is_utf8(name) && encoding_of(name).is_none(),
-        _ => false,
-    }
+    matches!(
+        state_in(b"working-tree-encoding", known),
+        Value::Set | Value::Text(_)
+    )
 }
 
-/// Returns whether attributes of these states ask for a conversion that isn't made here: a filter other than that of git-lfs, or an
-/// encoding other than UTF-8, UTF-16, UTF-32 and ISO 8859-1.
+/// Returns whether attributes of these states ask for a conversion that isn't made here: a filter other than that of git-lfs, or
+/// `working-tree-encoding`.
 pub fn is_unconverted(known: &[Assignment<'_>], configured: Configured) -> bool
     ensures { result ≡ is_unconverted (map given_of known.now) configured }
 {

@@ -6,15 +6,13 @@
 //! pattern or a macro, and assignments (`assignment`), between blanks or in quotes (`words`). The patterns are those of the
 //! crate `git_patterns`. `worktree_files` finds the attribute files within a worktree, and `laws` has the law of these files.
 //! `staged_files` reads those that are only in the index, and `fault` is why one isn't read. `ident` is what git stores of a
-//! file with that attribute, and `decoding` what it stores of a file whose attribute names an `encoding`.
+//! file with that attribute.
 #![tactic(auto)]
 
 pub mod assignment;
 pub mod attributes;
 pub mod clean;
 pub mod conversion;
-mod decoding;
-mod encoding;
 pub mod fault;
 pub mod files;
 mod ident;
@@ -32,8 +30,6 @@ pub use assignment::{Assignment, Value};
 pub use attributes::{Attributes, Source};
 pub use clean::{CleanFilter, ids_decide_as_git_does};
 pub use conversion::{Configured, Steps, is_unconverted, steps_of};
-pub use decoding::push_decoded;
-pub use encoding::{Encoding, Mark, Order, encoding_of};
 pub use fault::AttributeFault;
 pub use files::{AttributeFile, AttributeFiles, attributes_of};
 pub use ident::push_without_ids;

@@ -13,7 +13,7 @@ returns g c =
       found = record { inner = map file_view c.in_ok-within.within.items; found = rw (c.new.ensures.worktree, c.new.ensures.index) at c.in_ok-within.ensures; others = c.in_ok-files.ensures };
       filter = _;
       attributes = read;
-      auto = refl;
+      configured = refl;
       entries = refl;
       kind = refl;
     }) _ _ refl refl (adds_anyhow _ _ _ _ _ _ _ _ _ _ (rw c.new-2.ensures at c.in_ok-add_entries.ensures))
